@@ -1,0 +1,126 @@
+-- Laws of the lists that the definitions are written with: `row`, `table`, `count`, `over`.
+--     row-length, row-at, row-same       a row's length, its entries, two rows with the same entries
+--     row-set, row-zeros                 a store into a row; a row of zeros
+--     table-length, table-at             a table's length and its entries
+--     table-room                         list i's row lies within the table
+--     count-append, count-set            a count over two lists; after a store that makes one more pass
+--     count-full                         where a count is the whole length, each entry passes
+--     over-length, over-at               a slice written over keeps its length; what stands in its first part
+-- Assumes nothing.
+use mathlib.Core.Path.{_≡_, refl, sym, ap, _∙_}
+use mathlib.Core.Bool.{Bool, true, false, cond}
+use mathlib.Core.Logic.{_≢_}
+use mathlib.Core.List.{List, [], _∷_, _++_, append-nil}
+use Prim.Native.Nat.{ℕ, zero, suc, _+_, _-_, _*_, _≤_, _<_}
+use native.Mathlib.Nat.{add-zero, zero-add, zero-mul, suc-mul, mul-le-mul-right, not-suc-le-zero, le-of-suc-le-suc}
+use native.Mathlib.Numerals.{add-one}
+use native.Mathlib.Omega.{arith}
+use lib.Dec.{eqb}
+use borrow.Author.Tests.{eqb-true, eqb-false, eq-eqb, ne-eqb}
+use lib.ListN.{length, getD, set, drop, replicate, length-append, length-drop, length-set, replicate-append-replicate, List·getD-append}
+use lib.Seq.{ext-getD, getD-append-add, getD-append-seam, getD-set-same, getD-set-other}
+use Rattle.model.specs.Words.{count, row, table, over}
+use Rattle.laws.specs.Tests.{by-cases, below-suc}
+
+-- ---- row
+pub row-length : {A : Type 0} (f : ℕ → A) (n : ℕ) → length (row f n) ≡ n
+unfolding row
+row-length f zero = refl
+row-length f (suc n) = rw (length-append, row-length f n) (omega arith)
+
+pub row-at : {A : Type 0} (f : ℕ → A) (n i : ℕ) (x : A) → i < n → getD (row f n) i x ≡ f i
+unfolding row
+row-at f zero i x h = absurd (not-suc-le-zero h)
+row-at f (suc n) i x h =
+    below-suc i n h
+    (λ (l : i < n). List·getD-append (row f n) (f n ∷ []) x i (rw row-length l) ∙ row-at f n i x l)
+    (λ (e : i ≡ n). rw e (ap (λ (j : ℕ). getD (row f n ++ (f n ∷ [])) j x) (sym (row-length f n)) ∙ getD-append-seam (row f n) (f n) [] x))
+
+pub row-same : {A : Type 0} (f g : ℕ → A) (n : ℕ) → ((i : ℕ) → i < n → f i ≡ g i) → row f n ≡ row g n
+unfolding row
+row-same f g zero h = refl
+row-same f g (suc n) h = rw (row-same f g n (λ i l. h i (omega arith)), h n (omega arith))
+
+-- a store into a row: the function is changed at one number
+pub row-set : (f : ℕ → ℕ) (n d v : ℕ) → d < n → set (row f n) d v ≡ row (λ e. cond (eqb d e) v (f e)) n
+row-set f n d v h =
+    ext-getD 0 (set (row f n) d v) (row (λ e. cond (eqb d e) v (f e)) n)
+    (length-set (row f n) d v ∙ row-length f n ∙ sym (row-length (λ e. cond (eqb d e) v (f e)) n))
+    (λ i l.
+    let l′ : i < n = rw (length-set, row-length) at l in
+    by-cases (eqb d i)
+    (λ (y : eqb d i ≡ true).
+    let e : d ≡ i = eqb-true d i y in
+    rw (row-at (λ e. cond (eqb d e) v (f e)) n i 0 l′, y, ← e) (getD-set-same (row f n) d v 0 (rw row-length h)))
+    (λ (z : eqb d i ≡ false).
+    rw (row-at (λ e. cond (eqb d e) v (f e)) n i 0 l′, z)
+    (getD-set-other (row f n) d i v 0 (λ (e : i ≡ d). eqb-false d i z (sym e)) ∙ row-at f n i 0 l′)))
+
+pub row-zeros : (n : ℕ) → row {A = ℕ} (λ _. 0) n ≡ replicate n 0
+unfolding row
+row-zeros zero = refl
+row-zeros (suc n) = rw (row-zeros n) (replicate-append-replicate n 1 0 ∙ ap (λ (k : ℕ). replicate k 0) (add-one n))
+
+-- ---- table
+pub table-length : (f : ℕ → ℕ → ℕ) (n m : ℕ) → length (table f n m) ≡ m * n
+unfolding table
+table-length f n zero = sym (zero-mul n)
+table-length f n (suc i) = rw (length-append, table-length f n i, row-length, suc-mul)
+
+-- list i's row lies within the table
+pub table-room : (i m n : ℕ) → i < m → i * n + n ≤ m * n
+table-room i m n h = let r : suc i * n ≤ m * n = mul-le-mul-right n h in rw suc-mul at r
+
+pub table-at : (f : ℕ → ℕ → ℕ) (n m i d x : ℕ) → i < m → d < n → getD (table f n m) (i * n + d) x ≡ f i d
+unfolding table
+table-at f n zero i d x h l = absurd (not-suc-le-zero h)
+table-at f n (suc m) i d x h l =
+    below-suc i m h
+    (λ (k : i < m).
+    let r : i * n + d < length (table f n m) = omega (arith, table-length f n m, table-room i m n k) in
+    List·getD-append (table f n m) (row (f m) n) x (i * n + d) r ∙ table-at f n m i d x k l)
+    (λ (e : i ≡ m).
+    rw (e, ← (table-length f n m)) (getD-append-add (table f n m) (row (f m) n) d x ∙ row-at (f m) n d x l))
+
+-- ---- count
+pub count-append : {A : Type 0} (t : A → Bool) (l k : List A) → count t (l ++ k) ≡ count t l + count t k
+unfolding count
+count-append t [] k = omega arith
+count-append t (a ∷ l) k = rw (count-append t l k) (omega arith)
+
+pub count-most : {A : Type 0} (t : A → Bool) (l : List A) → count t l ≤ length l
+unfolding count
+count-most t [] = omega arith
+count-most t (a ∷ l) =
+    by-cases (t a)
+    (λ (y : t a ≡ true). rw y (omega (arith, count-most t l)))
+    (λ (n : t a ≡ false). rw n (omega (arith, count-most t l)))
+
+-- a store that makes an entry pass, where none passed before
+pub count-set : {A : Type 0} (t : A → Bool) (l : List A) (d : ℕ) (v x : A) → d < length l → t (getD l d x) ≡ false → t v ≡ true → count t (set l d v) ≡ count t l + 1
+unfolding count
+count-set t [] d v x h n y = absurd (not-suc-le-zero h)
+count-set t (a ∷ l) zero v x h n y = rw (n, y) (omega arith)
+count-set t (a ∷ l) (suc d) v x h n y = rw (count-set t l d v x (le-of-suc-le-suc h) n y) (omega arith)
+
+-- as many passing as there are entries: the first passes, and so do the others
+count-full-cons : {A : Type 0} (t : A → Bool) (a : A) (l : List A) → count t (a ∷ l) ≡ suc (length l) → (t a ≡ true) × (count t l ≡ length l)
+unfolding count
+count-full-cons t a l e =
+    by-cases (t a)
+    (λ (y : t a ≡ true). let e′ : 1 + count t l ≡ suc (length l) = rw y at e in (y, omega arith))
+    (λ (n : t a ≡ false). let e′ : 0 + count t l ≡ suc (length l) = rw n at e in absurd (omega (arith, count-most t l)))
+
+pub count-full : {A : Type 0} (t : A → Bool) (l : List A) (d : ℕ) (x : A) → count t l ≡ length l → d < length l → t (getD l d x) ≡ true
+count-full t [] d x e h = absurd (not-suc-le-zero h)
+count-full t (a ∷ l) zero x e h = count-full-cons t a l e .0
+count-full t (a ∷ l) (suc d) x e h = count-full t l d x (count-full-cons t a l e .1) (le-of-suc-le-suc h)
+
+-- ---- over
+pub over-length : (l s : List ℕ) → length l ≤ length s → length (over l s) ≡ length s
+unfolding over
+over-length l s h = rw (length-append, length-drop) (omega arith)
+
+pub over-at : (l s : List ℕ) (i x : ℕ) → i < length l → getD (over l s) i x ≡ getD l i x
+unfolding over
+over-at l s i x h = List·getD-append l (drop (length l) s) x i h

@@ -1,0 +1,1 @@
+// No code: what follows from the definitions stands in specs/.

@@ -1,0 +1,161 @@
+// The list check and the place table. Every entry of a pose set is looked at once, in reading order, and
+// each item's position in each list is noted in the work slice.
+ghost use mathlib.Core.Path.{_≡_};
+ghost use mathlib.Core.List.{_++_};
+ghost use Prim.Native.Nat.{_+_, _≤_, _<_};
+ghost use lib.ListN.{length, drop, replicate};
+ghost use Rattle.model.specs.Refusals.{wrongSize, accepted, refused};
+ghost use Rattle.model.specs.Answers.{told};
+ghost use Rattle.lists.specs.Contracts.{poses, valueOf, Listed, ListNoted, Lying, ListsNoted, ListsChecked};
+
+// What the list check answers: a refusal's number with list and position, both from 1, or all 0.
+pub struct Checked {
+    pub number: u32,
+    pub list: u32,
+    pub position: u32,
+}
+
+// No refusal: all three numbers are 0.
+fn passed() -> Checked
+    ensures { λ r. ⌜ valueOf r ≡ told accepted ⌝ }
+{
+    Checked {
+        number: 0,
+        list: 0,
+        position: 0,
+    }
+}
+
+// A refusal that is met at no position carries 0, 0.
+fn refusal(number: u32) -> Checked
+    ensures { λ r. ⌜ valueOf r ≡ told (refused number 0 0) ⌝ }
+{
+    Checked {
+        number,
+        list: 0,
+        position: 0,
+    }
+}
+
+// A refusal that is met at a position carries list and position, both from 1.
+fn refusal_at(number: u32, i: usize, p: usize) -> Checked
+    requires { ⌜ (i < 8) × (p < 1024) ⌝ }
+    ensures { λ r. ⌜ valueOf r ≡ told (refused number (i + 1) (p + 1)) ⌝ }
+{
+    Checked {
+        number,
+        list: (i + 1) as u32,
+        position: (p + 1) as u32,
+    }
+}
+
+// Test 1: m is not 1 to 8 or n not 1 to 1,024.
+pub fn wrong_size(m: usize, n: usize) -> bool
+    ensures { λ r. ⌜ r ≡ wrongSize m n ⌝ }
+{
+    if m < 1 {
+        return true;
+    }
+    if 8 < m {
+        return true;
+    }
+    if n < 1 {
+        return true;
+    }
+    1024 < n
+}
+
+// Sets the first `size` entries to 0.
+fn clear(work: &mut [u16], size: usize)
+    requires { ⌜ size ≤ length (now work) ⌝ }
+    ensures { λ _. ⌜ now (work .exit) ≡ replicate size 0 ++ drop size (now (work .entry)) ⌝ }
+{
+    let mut i = 0;
+    while i < size {
+        work[i] = 0;
+        i += 1;
+    }
+}
+
+fn wide(x: u16) -> usize
+    ensures { λ r. ⌜ r ≡ x ⌝ }
+{
+    x as usize
+}
+
+// Tests 7, 8, 9 position by position in list i, counted from 0. Each item that passes is noted at its
+// own place of `places`, so an item that stood earlier is seen there.
+fn note_list(i: usize, n: usize, items: &[u16], scores: &[u16], places: &mut [u16]) -> Checked
+    requires { ⌜ Listed i n (now items) (now scores) (now places) ⌝ }
+    ensures { λ r. ⌜ ListNoted i n (now (items .entry)) (now (scores .entry)) r (now (places .exit)) ⌝ }
+{
+    clear(places, n);
+    let base = i * n;
+    // No score is above it, so position 1 needs no test of its own.
+    let mut before: u16 = 65535;
+    let mut p = 0;
+    while p < n {
+        let at = base + p;
+        let item = wide(items[at]);
+        if n <= item {
+            return refusal_at(7, i, p);
+        }
+        if places[item] != 0 {
+            return refusal_at(8, i, p);
+        }
+        let score = scores[at];
+        if before < score {
+            return refusal_at(9, i, p);
+        }
+        before = score;
+        p += 1;
+        places[item] = p as u16;
+    }
+    passed()
+}
+
+// List by list: each has its own row of the work slice. The first refusal ends it.
+fn note_lists(m: usize, n: usize, items: &[u16], scores: &[u16], work: &mut [u16]) -> Checked
+    requires { ⌜ Lying (poses m n (now items) (now scores)) (now work) ⌝ }
+    ensures { λ r. ⌜ ListsNoted (poses m n (now (items .entry)) (now (scores .entry))) (now (work .entry)) r (now (work .exit)) ⌝ }
+{
+    let mut i = 0;
+    while i < m {
+        let from = i * n;
+        let to = from + n;
+        let found = note_list(i, n, items, scores, &mut work[from..to]);
+        let number = found.number;
+        if number != 0 {
+            return found;
+        }
+        i += 1;
+    }
+    passed()
+}
+
+// The list check by itself: tests 1, 5 and 6, then 7 to 9 at each position. After 1, 5, 6 the work slice
+// is as lent, after 7 to 9 its first m x n entries are 0, and of accepted lists it has the positions.
+pub fn check_lists(m: usize, n: usize, items: &[u16], scores: &[u16], work: &mut [u16]) -> Checked
+    ensures { λ r. ⌜ ListsChecked (poses m n (now (items .entry)) (now (scores .entry))) (now (work .entry)) r (now (work .exit)) ⌝ }
+{
+    if wrong_size(m, n) {
+        return refusal(1);
+    }
+    let size = m * n;
+    if items.len() < size {
+        return refusal(5);
+    }
+    if scores.len() < size {
+        return refusal(5);
+    }
+    if work.len() < size {
+        return refusal(6);
+    }
+    let found = note_lists(m, n, items, scores, work);
+    let number = found.number;
+    if number == 0 {
+        return found;
+    }
+    clear(work, size);
+    found
+}

@@ -1,0 +1,1 @@
+// No code: the definitions of document 01 stand in specs/.
