@@ -9,6 +9,7 @@ pub mod Lists
 pub mod Verdicts
 pub mod Marks
 pub mod Accepted
+pub mod Lookups
 pub mod Opened
 pub mod Cases
 pub mod SixteenRows
