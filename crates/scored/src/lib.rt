@@ -1,0 +1,2 @@
+// The searches that look an item's whole score up: TA, BPA and BPA2.
+mod shortlist;
