@@ -3,16 +3,19 @@
 --     Seated                 where an item belongs among the first `filled`
 --     slid                   a value put in at a seat, what stood from there on moved one place on
 --     Keeps, Listing, Inserted       what an insertion asks; items in their order in both slices; what it promises
+--     Visitable, visitedOnce         what the visit of an item in every list asks; the tally afterwards
+--     Walkable, walkedTo             what a walk to a list's best position asks; where it ends
 -- Assumes nothing.
 use mathlib.Core.Path.{_≡_}
 use mathlib.Core.Bool.{Bool, true, false, cond, _&&_, _||_}
 use mathlib.Core.List.{List, map}
-use Prim.Native.Nat.{ℕ, suc, _-_, _≤_, _<_}
+use Prim.Native.Nat.{ℕ, suc, _+_, _-_, _*_, _≤_, _<_}
 use lib.Dec.{leb, ltb, eqb}
 use lib.ListN.{length, getD, take}
-use Rattle.model.specs.Words.{row, over}
+use Rattle.model.specs.Words.{first, row, table, over}
 use Rattle.model.specs.Searches.{ahead, insert, among}
 use Rattle.laws.specs.Ranking.{Sorted}
+use Rattle.laws.specs.Lookups.{once}
 
 -- item d of score x stands before item e of score y: by score falling, then item rising
 unfoldable pub aheadOf : ℕ → ℕ → ℕ → ℕ → Bool
@@ -51,3 +54,31 @@ pub record Listing (f : ℕ → ℕ) (l picks₀ lows₀ : List ℕ) (filled : �
 -- Whatever items stand in the slices in the order of their scores, the first k of them stand there once d is among them
 pub record Inserted (d x k filled : ℕ) (picks lows : List ℕ) (r : ℕ) (picks′ lows′ : List ℕ) : Type 0 where
   pub inserts : (f : ℕ → ℕ) (l picks₀ lows₀ : List ℕ) → Listing f l picks₀ lows₀ filled picks lows → x ≡ f d → among d l ≡ false → Listing f (take k (insert (ahead f f) d l)) picks₀ lows₀ r picks′ lows′
+
+-- Item d has a position in each of m lists that lie within the tally and the work slice, and no count there is too large
+pub record Visitable (d m n : ℕ) (tally work : List ℕ) : Type 0 where
+  pub item-small : d < n
+  pub tally-long : m * n ≤ length tally
+  pub work-long : m * n ≤ length work
+  pub place-least : (i : ℕ) → i < m → 1 ≤ getD work (i * n + d) 0
+  pub place-most : (i : ℕ) → i < m → getD work (i * n + d) 0 ≤ n
+  pub count-small : (i : ℕ) → i < m → getD tally (i * n + (getD work (i * n + d) 0 - 1)) 0 ≤ 8
+
+-- one visit more at item d's position in each of the first b lists; the work slice's positions count from one
+unfoldable pub visitedIn : ℕ → ℕ → ℕ → List ℕ → List ℕ → ℕ → List ℕ
+visitedIn d m n work tally b =
+    over (table (λ i p. getD tally (i * n + p) 0 + once (ltb i b && eqb (getD work (i * n + d) 0 - 1) p)) n m) tally
+
+unfoldable pub visitedOnce : ℕ → ℕ → ℕ → List ℕ → List ℕ → List ℕ
+visitedOnce d m n work tally = visitedIn d m n work tally m
+
+-- List i lies within the tally, and its positions before `from` were visited
+pub record Walkable (i m n b : ℕ) (tally : List ℕ) : Type 0 where
+  pub list-within : i < m
+  pub from-within : b ≤ n
+  pub tally-long : m * n ≤ length tally
+  pub visited-before : (p : ℕ) → p < b → getD tally (i * n + p) 0 ≡ 0 → ⊥
+
+-- the first position of list i that was not visited
+unfoldable pub walkedTo : ℕ → ℕ → List ℕ → ℕ
+walkedTo i n tally = first (λ p. eqb (getD tally (i * n + p) 0) 0) n 0
