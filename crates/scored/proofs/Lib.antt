@@ -1,4 +1,5 @@
 -- Laws that the proofs of this crate cite.
+--     Steps        steps from one state to the next
 --     Meetings     an item is met: its score, the tally and the ranking afterwards
 --     Visiting     visits in one list after the other; the walk to a best position
 --     Keeping      an insertion into the shortlist
@@ -7,3 +8,4 @@ mod Sliding
 mod Keeping
 mod Visiting
 mod Meetings
+mod Steps

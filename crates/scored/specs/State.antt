@@ -3,10 +3,11 @@
 --     State              the shortlist's slices hold the first k of them with their scores, and the tally slice the tally
 --     Goes               a step: whatever was lent, from the state after some accesses to the state after more
 --     Meeting, Met       what meeting an item asks and promises
+--     Standing           the state after some accesses, over the slices themselves, with all that may be read
 -- Assumes nothing.
 use mathlib.Core.Path.{_≡_}
 use mathlib.Core.List.{List, _++_}
-use Prim.Native.Nat.{ℕ, _≤_, _<_}
+use Prim.Native.Nat.{ℕ, _*_, _≤_, _<_}
 use lib.ListN.{length, take}
 use Rattle.model.specs.Words.{over}
 use Rattle.model.specs.Given.{Poses, Query, item, total}
@@ -15,7 +16,7 @@ use Rattle.model.specs.Searches.{ahead, ranked}
 use Rattle.laws.specs.Accepted.{Valid, Placed}
 use Rattle.laws.specs.Meetings.{Whole}
 use Rattle.lists.specs.Contracts.{poses}
-use Rattle.meeting.specs.Contracts.{queryWith, Located, Small}
+use Rattle.meeting.specs.Contracts.{queryWith, Readable, Located, Small}
 use Rattle.scored.specs.Contracts.{Keeps, Listing, Visitable}
 
 -- the items met, by score falling, then item rising
@@ -43,3 +44,10 @@ pub record Meeting (d m n k filled : ℕ) (weights scores picks lows marks work 
 -- Item d, wherever it was found: one lookup more
 pub record Met (d m n rule k filled : ℕ) (weights scores picks lows marks work : List ℕ) (filled′ : ℕ) (picks′ lows′ marks′ : List ℕ) : Type 0 where
   pub looks-up : (items : List ℕ) (tr : List Access) (a : Kind) (i p : ℕ) → Valid (poses m n items scores) → Placed (poses m n items scores) work → Whole (poses m n items scores) tr → i < m → p < n → item (poses m n items scores) i p ≡ d → Goes (poses m n items scores) (queryWith rule weights) k tr (tr ++ lookup (poses m n items scores) a i p) filled picks lows marks filled′ picks′ lows′ marks′
+
+-- Between two steps: all that may be read, the state after tr over the slices themselves, and room for more
+pub record Standing (s : Poses) (q : Query) (k : ℕ) (tr : List Access) (filled : ℕ) (picks lows marks work : List ℕ) : Type 0 where
+  pub readable : Readable s q work
+  pub keeps : Keeps k filled picks lows
+  pub tally-long : s .m * s .n ≤ length marks
+  pub state : State s q k tr picks lows marks filled picks lows marks

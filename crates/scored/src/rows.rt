@@ -1,7 +1,10 @@
 // One step of a search: an item is met, a row is read, a round is run.
 ghost use mathlib.Core.Path.{_≡_};
 ghost use Prim.Native.Nat.{_+_, _*_, _≤_, _<_};
-ghost use Rattle.scored.specs.State.{Meeting, Met};
+ghost use Rattle.model.specs.Accesses.{rowsTA};
+ghost use Rattle.lists.specs.Contracts.{poses};
+ghost use Rattle.meeting.specs.Contracts.{queryWith};
+ghost use Rattle.scored.specs.State.{Meeting, Met, Goes, Standing};
 
 use crate::shortlist;
 use crate::visits;
@@ -41,4 +44,35 @@ pub fn meet(
     }
     let x = meeting::bound(false, item, n, m, n, rule, weights, scores, work);
     shortlist::keep(d, x, k, filled, picks, lows)
+}
+
+// Row p, counted from 0: in each list the item at position p is met. Gives how many are kept then.
+pub fn row(
+    p: usize,
+    m: usize,
+    n: usize,
+    rule: u8,
+    weights: [u32; 8],
+    k: usize,
+    filled: usize,
+    items: &[u16],
+    scores: &[u16],
+    picks: &mut [u16],
+    lows: &mut [u32],
+    tally: &mut [u8],
+    work: &[u16],
+) -> usize
+    requires { ⌜ Standing (poses m n (now items) (now scores)) (queryWith rule weights) k (rowsTA (poses m n (now items) (now scores)) p) filled (now picks) (now lows) (now tally) (now work) × (p < n) ⌝ }
+    ensures { λ r. ⌜ Goes (poses m n (now (items .entry)) (now (scores .entry))) (queryWith rule weights) k (rowsTA (poses m n (now (items .entry)) (now (scores .entry))) p) (rowsTA (poses m n (now (items .entry)) (now (scores .entry))) (p + 1)) filled (now (picks .entry)) (now (lows .entry)) (now (tally .entry)) r (now (picks .exit)) (now (lows .exit)) (now (tally .exit)) ⌝ }
+{
+    let mut kept = filled;
+    let mut i = 0;
+    while i < m {
+        let base = i * n;
+        let at = base + p;
+        let d = items[at];
+        kept = meet(d, m, n, rule, weights, k, kept, scores, picks, lows, tally, work);
+        i += 1;
+    }
+    kept
 }
