@@ -1,7 +1,10 @@
 -- The rounds of BPA2 over a valid pose set.
+--     by-turn                    a turn passes the list over, or looks up the item after its best position
 --     Turns                      lookups by direct accesses, one for each item met, and no item looked up twice
---     turn-next, rounds-turns    a turn at a list keeps this; so it holds after any number of rounds
+--     turn-next, round-turns, rounds-turns   a turn at a list keeps this; so it holds in the middle of a round and after any number
+--     unvisited-item             the item at an unvisited position was never looked up
 --     rounds-once                no position of any list is visited twice
+--     visited-next, visited-round    what was visited stays visited
 --     next-visits                a turn at a list visits the position after its best one
 --     rounds-covers              after r rounds the first r positions of every list are visited
 --     rounds-length              r rounds are at most r * (m * m) accesses
@@ -33,7 +36,7 @@ none-met s d =
     some-none (λ i. leb 1 (times [] i (place s i d))) (s .m) (λ i _. lt-leb 1 (times [] i (place s i d)) (omega (arith, times-none i (place s i d))))
 
 -- a turn passes the list over, or looks up the item after its best position
-by-turn : (X : List Access → Type 0) (s : Poses) (tr : List Access) (i : ℕ) → (best s tr i ≡ s .n → X tr)
+pub by-turn : (X : List Access → Type 0) (s : Poses) (tr : List Access) (i : ℕ) → (best s tr i ≡ s .n → X tr)
     → (best s tr i < s .n → X (tr ++ lookup s direct i (best s tr i))) → X (next s tr i)
 unfolding next
 by-turn X s tr i over look =
@@ -54,7 +57,7 @@ module _ (s : Poses) (v : Valid s) where
       record { looked = rw unmet looked-none; once-each = λ d hd. omega (arith, times-none 0 (place s 0 d)) }
 
   -- the item at an unvisited position was never looked up
-  unvisited-item : (tr : List Access) (i p : ℕ) → i < s .m → p < s .n → Whole s tr → visited tr i p ≡ false
+  pub unvisited-item : (tr : List Access) (i p : ℕ) → i < s .m → p < s .n → Whole s tr → visited tr i p ≡ false
       → times tr 0 (place s 0 (item s i p)) ≡ 0
   unvisited-item tr i p hi hp w z =
       sym (w .alike i (item s i p) hi (v .is-item i p hi hp))
@@ -86,7 +89,7 @@ module _ (s : Poses) (v : Valid s) where
   pub turn-next : (tr : List Access) (i : ℕ) → i < s .m → Turns tr → Turns (next s tr i)
   turn-next tr i hi t = by-turn Turns s tr i (λ _. t) (turn-looks tr i hi t)
 
-  round-turns : (tr : List Access) (i : ℕ) → i ≤ s .m → Turns tr → Turns (round s tr i)
+  pub round-turns : (tr : List Access) (i : ℕ) → i ≤ s .m → Turns tr → Turns (round s tr i)
   unfolding round
   round-turns tr zero hi t = t
   round-turns tr (suc i) hi t = turn-next (round s tr i) i hi (round-turns tr i (omega arith) t)
@@ -109,12 +112,12 @@ module _ (s : Poses) (v : Valid s) where
 
 -- ---- how far the rounds reach
 module _ (s : Poses) where
-  visited-next : (tr : List Access) (i j q : ℕ) → visited tr j q ≡ true → visited (next s tr i) j q ≡ true
+  pub visited-next : (tr : List Access) (i j q : ℕ) → visited tr j q ≡ true → visited (next s tr i) j q ≡ true
   visited-next tr i j q y =
       by-turn (λ more. visited more j q ≡ true) s tr i
       (λ _. y) (λ _. visited-more tr (lookup s direct i (best s tr i)) j q y)
 
-  visited-round : (tr : List Access) (i j q : ℕ) → visited tr j q ≡ true → visited (round s tr i) j q ≡ true
+  pub visited-round : (tr : List Access) (i j q : ℕ) → visited tr j q ≡ true → visited (round s tr i) j q ≡ true
   unfolding round
   visited-round tr zero j q y = y
   visited-round tr (suc i) j q y = visited-next (round s tr i) i j q (visited-round tr i j q y)

@@ -1,4 +1,5 @@
 -- Laws that the proofs of this crate cite.
+--     Turning      a turn of BPA2 at a list; the best positions that the tally slice tells
 --     Steps        steps from one state to the next
 --     Meetings     an item is met: its score, the tally and the ranking afterwards
 --     Visiting     visits in one list after the other; the walk to a best position
@@ -9,3 +10,4 @@ mod Keeping
 mod Visiting
 mod Meetings
 mod Steps
+mod Turning

@@ -4,19 +4,23 @@
 --     Goes               a step: whatever was lent, from the state after some accesses to the state after more
 --     Meeting, Met       what meeting an item asks and promises
 --     Standing           the state after some accesses, over the slices themselves, with all that may be read
+--     Looking, Turned    what a turn of BPA2 at a list asks and promises
+--     Reached            positions up to which each list was visited
+--     Rounding, Rounded  what a round of BPA2 asks and promises
 -- Assumes nothing.
 use mathlib.Core.Path.{_≡_}
 use mathlib.Core.List.{List, _++_}
-use Prim.Native.Nat.{ℕ, _*_, _≤_, _<_}
-use lib.ListN.{length, take}
+use Prim.Native.Nat.{ℕ, _+_, _*_, _≤_, _<_}
+use lib.ListN.{length, getD, take}
 use Rattle.model.specs.Words.{over}
 use Rattle.model.specs.Given.{Poses, Query, item, total}
-use Rattle.model.specs.Accesses.{Kind, Access, lookup, met, tally}
+use Rattle.model.specs.Accesses.{Kind, direct, Access, lookup, next, rounds, met, best, made, tally}
 use Rattle.model.specs.Searches.{ahead, ranked}
 use Rattle.laws.specs.Accepted.{Valid, Placed}
 use Rattle.laws.specs.Meetings.{Whole}
 use Rattle.lists.specs.Contracts.{poses}
 use Rattle.meeting.specs.Contracts.{queryWith, Readable, Located, Small}
+use Rattle.scored.specs.declared.rows.Turn.{Turn}
 use Rattle.scored.specs.Contracts.{Keeps, Listing, Visitable}
 
 -- the items met, by score falling, then item rising
@@ -51,3 +55,31 @@ pub record Standing (s : Poses) (q : Query) (k : ℕ) (tr : List Access) (filled
   pub keeps : Keeps k filled picks lows
   pub tally-long : s .m * s .n ≤ length marks
   pub state : State s q k tr picks lows marks filled picks lows marks
+
+-- List i lies within the slices; where b is a position, there is room to meet the item that stands there
+pub record Looking (i b : ℕ) (s : Poses) (k filled : ℕ) (weights picks lows marks work : List ℕ) : Type 0 where
+  pub list-within : i < s .m
+  pub at-most : b ≤ s .n
+  pub items-long : s .m * s .n ≤ length (s .items)
+  pub meeting : b < s .n → Meeting (item s i b) (s .m) (s .n) k filled weights (s .scores) picks lows marks work
+
+-- Whatever was visited so far, where b is list i's best position: BPA2's turn at list i
+pub record Turned (i b : ℕ) (s : Poses) (q : Query) (k filled : ℕ) (picks lows marks work : List ℕ) (filled′ : ℕ) (picks′ lows′ marks′ : List ℕ) : Type 0 where
+  pub turns : (tr : List Access) → Valid s → Placed s work → Whole s tr → b ≡ best s tr i → Goes s q k tr (next s tr i) filled picks lows marks filled′ picks′ lows′ marks′
+
+-- Each list was visited up to the position that stands for it
+abbrev pub Reached : Poses → List Access → List ℕ → Type 0
+Reached s tr reach = (i : ℕ) → i < s .m → getD reach i 0 ≤ best s tr i
+
+-- After some number of rounds
+pub record Rounding (s : Poses) (q : Query) (k filled : ℕ) (reach picks lows marks work : List ℕ) : Type 0 where
+  pub done : ℕ
+  pub standing : Standing s q k (rounds s done) filled picks lows marks work
+  pub reached : Reached s (rounds s done) reach
+
+-- After however many rounds the slices stand: one round more
+pub record Rounded (s : Poses) (q : Query) (k filled : ℕ) (reach picks lows marks work : List ℕ) (t : Turn) (picks′ lows′ marks′ : List ℕ) : Type 0 where
+  pub goes : (r : ℕ) → Standing s q k (rounds s r) filled picks lows marks work → Reached s (rounds s r) reach → Goes s q k (rounds s r) (rounds s (r + 1)) filled picks lows marks (t .filled) picks′ lows′ marks′
+  pub reached : (r : ℕ) → Standing s q k (rounds s r) filled picks lows marks work → Reached s (rounds s r) reach → Reached s (rounds s (r + 1)) (t .best)
+  pub counted : (r : ℕ) → Standing s q k (rounds s r) filled picks lows marks work → Reached s (rounds s r) reach → made direct (rounds s (r + 1)) ≡ made direct (rounds s r) + t .found
+  pub few : t .found ≤ s .m
