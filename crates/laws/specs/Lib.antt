@@ -14,6 +14,8 @@ pub mod Lists
 pub mod Verdicts
 pub mod Marks
 pub mod Accepted
+pub mod Lookups
+pub mod Meetings
 pub mod Passing
 pub mod Ahead
 pub mod Ranking

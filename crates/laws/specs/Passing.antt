@@ -2,17 +2,25 @@
 --     passing t n                    how many of 0, 1, .., n - 1 pass t
 --     passing-most, passing-same     at most n; equal tests have equal numbers
 --     passing-wider                  a test that more numbers pass has no smaller number
---     passing-all                    where each passes, there are n
---     passing-more                   one more number passes: one more
+--     passing-all, passing-none      where each passes, there are n; where none does, 0
+--     passing-more, passing-one      one number more passes: one more; just one number passes
+--     passing-some, some-passing     one passes: at least one; and back
 -- Assumes nothing.
-use mathlib.Core.Path.{_≡_, refl, sym, _∙_}
+use mathlib.Core.Path.{_≡_, refl, sym, ap, _∙_}
 use mathlib.Core.Bool.{Bool, true, false, cond, _||_, or-false, or-true}
 use Prim.Native.Nat.{ℕ, zero, suc, _+_, _≤_, _<_}
 use native.Mathlib.Nat.{not-suc-le-zero}
 use native.Mathlib.Omega.{arith}
 use lib.Dec.{eqb}
-use borrow.Author.Tests.{eq-eqb, ne-eqb}
-use Rattle.laws.specs.Tests.{by-cases, below-suc}
+use borrow.Author.Tests.{eqb-true, eqb-false, eq-eqb, ne-eqb}
+use Rattle.model.specs.Words.{someBelow}
+use Rattle.laws.specs.Tests.{by-cases, below-suc, some-not}
+
+pub eqb-swap : (a b : ℕ) → eqb a b ≡ eqb b a
+eqb-swap a b =
+    by-cases (eqb b a)
+    (λ (y : eqb b a ≡ true). rw y (eq-eqb a b (sym (eqb-true b a y))))
+    (λ (z : eqb b a ≡ false). rw z (ne-eqb a b (λ e. eqb-false b a z (sym e))))
 
 -- how many of 0, 1, .., n - 1 pass the test
 unfoldable pub passing : (ℕ → Bool) → ℕ → ℕ
@@ -67,3 +75,18 @@ passing-more t u (suc n) e l f h =
     let was : t n ≡ false = rw x at f in
     let same = passing-same u t n (λ d b. h d (omega arith) ∙ rw (ne-eqb d e (λ y. omega arith)) (or-false (t d))) in
     rw (now, was, same) (omega arith))
+
+pub passing-one : (e n : ℕ) → e < n → passing (eqb e) n ≡ 1
+passing-one e n l =
+    passing-more (λ _. false) (eqb e) n e l refl (λ d _. eqb-swap e d)
+    ∙ ap suc (passing-none (λ _. false) n (λ _ _. refl))
+
+pub passing-some : (t : ℕ → Bool) (n e : ℕ) → e < n → t e ≡ true → 1 ≤ passing t n
+passing-some t n e l y =
+    rw (passing-one e n l) at
+    (passing-wider (eqb e) t n (λ d _ same. let x : e ≡ d = eqb-true e d same in rw x at y))
+
+pub some-passing : (t : ℕ → Bool) (n : ℕ) → 1 ≤ passing t n → someBelow t n ≡ true
+some-passing t n h = 
+    by-cases (someBelow t n) (λ y. y)
+    (λ z. absurd (omega (arith, passing-none t n (λ d l. some-not t n d z l))))
