@@ -3,3 +3,7 @@ pub mod Visits
 pub mod Looked
 pub mod Rows
 pub mod Rounds
+pub mod Stopping
+pub mod Scores
+pub mod Compared
+pub mod Bounds

@@ -13,23 +13,18 @@ use native.Mathlib.Nat.{zero-mul, suc-mul}
 use native.Mathlib.Omega.{arith}
 use lib.Dec.{eqb}
 use lib.ListN.{length, length-append}
-use Rattle.model.specs.Words.{count}
 use Rattle.model.specs.Given.{Poses, item, place}
 use Rattle.model.specs.Accesses.{Kind, sorted, direct, random, Access, access, sameKind, randoms, lookup, made}
 use Rattle.laws.specs.Tests.{by-cases}
 use Rattle.laws.specs.Accepted.{Valid}
 use Rattle.laws.specs.Lookups.{made-append, lookup-made-own, lookup-made-other, lookup-made-random}
 use Rattle.laws.specs.Meetings.{Whole, whole-none, whole-more}
-use Rattle.demands.specs.Sums.{Inside, inside-none, inside-more, inside-append, made-length}
+use Rattle.demands.specs.Sums.{Inside, inside-none, inside-more, inside-append, made-none, made-length}
 
 -- tr is c lookups, each begun by an access of kind k
 pub data Looked (s : Poses) (k : Kind) : List Access → ℕ → Type 0 where
   looked-none : Looked s k [] 0
   looked-more : {tr : List Access} {c : ℕ} (i p : ℕ) → i < s .m → p < s .n → Looked s k tr c → Looked s k (tr ++ lookup s k i p) (suc c)
-
-made-none : (k : Kind) → made k [] ≡ 0
-unfolding made count
-made-none k = refl
 
 plain-kinds : (k : Kind) → sameKind k random ≡ false → (sameKind random k ≡ false) × (sameKind k k ≡ true)
 plain-kinds sorted h = (refl, refl)

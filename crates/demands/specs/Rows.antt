@@ -3,6 +3,7 @@
 --     rows-visits, rows-at       how often an item's places are visited: once for each list that has it among its first p positions
 --     rows-covers        the first p positions of every list are visited
 --     rows-most          no position is visited more than m times
+--     rows-inside        whatever they visit, all whole accesses visit that visit the first p positions of every list
 -- Assumes nothing.
 use mathlib.Core.Path.{_≡_, refl, sym, ap, _∙_}
 use mathlib.Core.Bool.{Bool, true, false, cond}
@@ -16,12 +17,12 @@ use borrow.Author.Tests.{eqb-true, eqb-false, eq-eqb, ne-eqb, ltb-true, ltb-fals
 use Rattle.model.specs.Words.{count}
 use Rattle.model.specs.Given.{Poses, item, place}
 use Rattle.model.specs.Accesses.{Access, sorted, lookup, rowTA, rowsTA, times, visited}
-use Rattle.laws.specs.Tests.{by-cases}
+use Rattle.laws.specs.Tests.{by-cases, some-found}
 use Rattle.laws.specs.Accepted.{Valid}
 use Rattle.laws.specs.Lookups.{once, times-append}
 use Rattle.laws.specs.Meetings.{Whole, whole-none, whole-more, lookup-at, place-eqb}
-use Rattle.laws.specs.Passing.{passing, passing-most, passing-none, passing-some, eqb-swap}
-use Rattle.demands.specs.Visits.{times-none, Covers, least-visited}
+use Rattle.laws.specs.Passing.{passing, passing-most, passing-none, passing-some, some-passing, eqb-swap}
+use Rattle.demands.specs.Visits.{times-none, Covers, visited-least, least-visited}
 use Rattle.demands.specs.Looked.{Looked, looked-none, looked-more, looked-whole}
 
 module _ (s : Poses) where
@@ -35,24 +36,24 @@ module _ (s : Poses) where
   rows-looked zero h = rw (zero-mul (s .m)) looked-none
   rows-looked (suc p) h = rw (suc-mul p (s .m)) (row-looked p (s .m) h (omega arith) (rows-looked p (omega arith)))
 
--- numbers below suc p are those below p and p itself
+-- what is below suc p is below p or is p
+pub once-next : (x p : ℕ) → once (ltb x p) + once (eqb x p) ≡ once (ltb x (suc p))
+once-next x p =
+    by-cases (ltb x p)
+    (λ (y : ltb x p ≡ true).
+    let l = ltb-true x p y in
+    rw (y, ne-eqb x p (λ e. omega arith), lt-ltb x (suc p) (omega arith)))
+    (λ (z : ltb x p ≡ false).
+    by-cases (eqb x p)
+    (λ (y : eqb x p ≡ true). rw (z, y, lt-ltb x (suc p) (omega (arith, eqb-true x p y))))
+    (λ (w : eqb x p ≡ false).
+    let other : x ≢ p = eqb-false x p w in
+    rw (z, w, le-ltb x (suc p) (omega (arith, ltb-false x p z)))))
+
 below-next : (f : ℕ → ℕ) (p m : ℕ) → passing (λ j. ltb (f j) p) m + passing (λ j. eqb (f j) p) m ≡ passing (λ j. ltb (f j) (suc p)) m
 unfolding passing
 below-next f p zero = refl
-below-next f p (suc m) = omega (arith, below-next f p m, next-one (f m) p)
-  where
-    next-one : (x p : ℕ) → once (ltb x p) + once (eqb x p) ≡ once (ltb x (suc p))
-    next-one x p =
-        by-cases (ltb x p)
-        (λ (y : ltb x p ≡ true).
-        let l = ltb-true x p y in
-        rw (y, ne-eqb x p (λ e. omega arith), lt-ltb x (suc p) (omega arith)))
-        (λ (z : ltb x p ≡ false).
-        by-cases (eqb x p)
-        (λ (y : eqb x p ≡ true). rw (z, y, lt-ltb x (suc p) (omega (arith, eqb-true x p y))))
-        (λ (w : eqb x p ≡ false). 
-        let other : x ≢ p = eqb-false x p w in
-        rw (z, w, le-ltb x (suc p) (omega (arith, ltb-false x p z)))))
+below-next f p (suc m) = omega (arith, below-next f p m, once-next (f m) p)
 
 module _ (s : Poses) (v : Valid s) where
   -- the item at position p is d where d's place is p
@@ -95,3 +96,17 @@ module _ (s : Poses) (v : Valid s) where
   pub rows-most : (p i q : ℕ) → p ≤ s .n → i < s .m → q < s .n → times (rowsTA s p) i q ≤ s .m
   rows-most p i q hp hi hq =
       rw (rows-at p i q hp hi hq) (passing-most (λ j. ltb (place s j (item s i q)) p) (s .m))
+
+  -- accesses that are whole and visit the first p positions visit whatever p rows visit
+  pub rows-inside : (p : ℕ) (tr : List Access) → p ≤ s .n → Whole s v tr → Covers s tr p
+      → (i q : ℕ) → i < s .m → q < s .n → visited (rowsTA s p) i q ≡ true → visited tr i q ≡ true
+  rows-inside p tr hp w c i q hi hq y =
+      let d = item s i q in
+      let hd = v .is-item i q hi hq in
+      let stands : place s i d ≡ q = v .place-of-item i q hi hq in
+      let some : 1 ≤ passing (λ j. ltb (place s j d) p) (s .m) = rw (rows-at p i q hp hi hq) at (visited-least (rowsTA s p) i q y) in
+      let at = some-found (λ j. ltb (place s j d) p) (s .m) (some-passing (λ j. ltb (place s j d) p) (s .m) some) in
+      let j = at .0 in
+      let seen : 1 ≤ times tr j (place s j d) = visited-least tr j (place s j d) (c j (place s j d) (at .1) (ltb-true (place s j d) p (at .2))) in
+      let here : times tr i (place s i d) ≡ times tr j (place s j d) = w .alike i d hi hd ∙ sym (w .alike j d (at .1) hd) in
+      least-visited tr i q (rw (← stands, here) seen)

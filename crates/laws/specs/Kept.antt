@@ -43,10 +43,10 @@ among-take k l j hk hl =
     let size = length-take k l in
     rw (getD-take k l j 0 hk) at (among-at (take k l) j (omega arith))
 
-module _ (before : ℕ → ℕ → Bool) (l : List ℕ) (h : Sorted before l) (k : ℕ) (some : 1 ≤ k) (full : k ≤ length l) where
-  kept-last : lastOf 0 (take k l) ≡ getD l (k - 1) 0
-  kept-last = let e : suc (k - 1) ≡ k = omega arith in rw e at (last-at 0 l (k - 1) (omega arith))
+pub kept-last : (l : List ℕ) (k : ℕ) → 1 ≤ k → k ≤ length l → lastOf 0 (take k l) ≡ getD l (k - 1) 0
+kept-last l k some full = let e : suc (k - 1) ≡ k = omega arith in rw e at (last-at 0 l (k - 1) (omega arith))
 
+module _ (before : ℕ → ℕ → Bool) (l : List ℕ) (h : Sorted before l) (k : ℕ) (some : 1 ≤ k) (full : k ≤ length l) where
   -- each of the first k is the last of them or stands before it
   pub kept-before : (d : ℕ) → among d (take k l) ≡ true
       → (d ≡ lastOf 0 (take k l)) ⊎ (before d (lastOf 0 (take k l)) ≡ true)
@@ -56,10 +56,10 @@ module _ (before : ℕ → ℕ → Bool) (l : List ℕ) (h : Sorted before l) (k
       (λ (x : ltb (r .0) (k - 1) ≡ true).
       let e : before (getD l (r .0) 0) (getD l (k - 1) 0) ≡ true =
       h (r .0) (k - 1) (ltb-true (r .0) (k - 1) x) (omega arith) in
-      inr (rw kept-last (rw (r .3) at e)))
+      inr (rw (kept-last l k some full) (rw (r .3) at e)))
       (λ (x : ltb (r .0) (k - 1) ≡ false).
       let e : r .0 ≡ k - 1 = omega (arith, r .1, ltb-false (r .0) (k - 1) x) in
-      inl (rw kept-last (sym (r .3) ∙ ap (λ (j : ℕ). getD l j 0) e)))
+      inl (rw (kept-last l k some full) (sym (r .3) ∙ ap (λ (j : ℕ). getD l j 0) e)))
 
   -- and every other entry stands after it
   pub kept-after : (d : ℕ) → among d l ≡ true → among d (take k l) ≡ false → before (lastOf 0 (take k l)) d ≡ true
@@ -72,7 +72,7 @@ module _ (before : ℕ → ℕ → Bool) (l : List ℕ) (h : Sorted before l) (k
       (λ (x : ltb (r .0) k ≡ false).
       let e : before (getD l (k - 1) 0) (getD l (r .0) 0) ≡ true =
       h (k - 1) (r .0) (omega (arith, ltb-false (r .0) k x)) (r .1) in
-      rw kept-last (rw (r .2) at e))
+      rw (kept-last l k some full) (rw (r .2) at e))
 
 -- ---- a test that is passed by whatever stands before what passes it
 module _ (before : ℕ → ℕ → Bool) (t : ℕ → Bool)
