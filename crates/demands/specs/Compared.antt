@@ -30,7 +30,7 @@ met-wider s v tr more wider d hd y =
     visited-met s more (at .0) d (at .1) (wider (at .0) (place s (at .0) d) (at .1) (v .has-place (at .0) d (at .1) hd) (at .2))
 
 module _ (s : Poses) (v : Valid s) (q : Query) (k : ℕ) (some : 1 ≤ k) where
-  bpa-stops : (p : ℕ) → p ≤ s .n → stops s k (TA s q) p ≡ true → stops s k (BPA s q) p ≡ true
+  pub bpa-stops : (p : ℕ) → p ≤ s .n → stops s k (TA s q) p ≡ true → stops s k (BPA s q) p ≡ true
   unfolding TA BPA
   bpa-stops p hp y =
       stops-sooner s q (rowsTA s) (rowsTA s) (λ p. threshold s q (λ i. p)) (λ p. threshold s q (best s (rowsTA s p))) k p some
@@ -40,7 +40,7 @@ module _ (s : Poses) (v : Valid s) (q : Query) (k : ℕ) (some : 1 ≤ k) where
       (λ i hi. best-most s (rowsTA s p) i))
       y
 
-  bpa2-stops : (p : ℕ) → p ≤ s .n → stops s k (BPA s q) p ≡ true → stops s k (BPA2 s q) p ≡ true
+  pub bpa2-stops : (p : ℕ) → p ≤ s .n → stops s k (BPA s q) p ≡ true → stops s k (BPA2 s q) p ≡ true
   unfolding BPA BPA2
   bpa2-stops p hp y =
       let wider : (i x : ℕ) → i < s .m → x < s .n → visited (rowsTA s p) i x ≡ true → visited (rounds s p) i x ≡ true =

@@ -7,3 +7,5 @@ pub mod Stopping
 pub mod Scores
 pub mod Compared
 pub mod Bounds
+pub mod Promise
+pub mod Promised

@@ -1,5 +1,7 @@
 -- The rows of TA and BPA over a valid pose set.
 --     rows-looked        p rows are p * m lookups
+--     rows-made          p rows make p * m times as many accesses of a kind as a lookup does
+--     once-next          what is below suc p is below p or is p
 --     rows-visits, rows-at       how often an item's places are visited: once for each list that has it among its first p positions
 --     rows-covers        the first p positions of every list are visited
 --     rows-most          no position is visited more than m times
@@ -16,12 +18,13 @@ use lib.Dec.{eqb, leb, ltb}
 use borrow.Author.Tests.{eqb-true, eqb-false, eq-eqb, ne-eqb, ltb-true, ltb-false, lt-ltb, le-ltb}
 use Rattle.model.specs.Words.{count}
 use Rattle.model.specs.Given.{Poses, item, place}
-use Rattle.model.specs.Accesses.{Access, sorted, lookup, rowTA, rowsTA, times, visited}
+use Rattle.model.specs.Accesses.{Kind, sorted, Access, lookup, rowTA, rowsTA, times, visited, made}
 use Rattle.laws.specs.Tests.{by-cases, some-found}
 use Rattle.laws.specs.Accepted.{Valid}
-use Rattle.laws.specs.Lookups.{once, times-append}
+use Rattle.laws.specs.Lookups.{once, times-append, made-append}
 use Rattle.laws.specs.Meetings.{Whole, whole-none, whole-more, lookup-at, place-eqb}
 use Rattle.laws.specs.Passing.{passing, passing-most, passing-none, passing-some, some-passing, eqb-swap}
+use Rattle.demands.specs.Sums.{made-none}
 use Rattle.demands.specs.Visits.{times-none, Covers, visited-least, least-visited}
 use Rattle.demands.specs.Looked.{Looked, looked-none, looked-more, looked-whole}
 
@@ -35,6 +38,22 @@ module _ (s : Poses) where
   unfolding rowsTA
   rows-looked zero h = rw (zero-mul (s .m)) looked-none
   rows-looked (suc p) h = rw (suc-mul p (s .m)) (row-looked p (s .m) h (omega arith) (rows-looked p (omega arith)))
+
+  -- as many accesses of a kind as each lookup makes of it
+  row-made : (k : Kind) (c p i : ℕ) → i ≤ s .m → ((j : ℕ) → j < s .m → made k (lookup s sorted j p) ≡ c)
+      → made k (rowTA s p i) ≡ i * c
+  unfolding rowTA
+  row-made k c p zero hi h = made-none k ∙ sym (zero-mul c)
+  row-made k c p (suc i) hi h =
+      rw (made-append k (rowTA s p i) (lookup s sorted i p), row-made k c p i (omega arith) h, h i hi) (sym (suc-mul i c))
+
+  pub rows-made : (k : Kind) (c p : ℕ) → ((j x : ℕ) → j < s .m → made k (lookup s sorted j x) ≡ c)
+      → made k (rowsTA s p) ≡ p * (s .m * c)
+  unfolding rowsTA
+  rows-made k c zero h = made-none k ∙ sym (zero-mul (s .m * c))
+  rows-made k c (suc p) h =
+      rw (made-append k (rowsTA s p) (rowTA s p (s .m)), rows-made k c p h, row-made k c p (s .m) (omega arith) (λ j hj. h j p hj))
+      (sym (suc-mul p (s .m * c)))
 
 -- what is below suc p is below p or is p
 pub once-next : (x p : ℕ) → once (ltb x p) + once (eqb x p) ≡ once (ltb x (suc p))

@@ -2,6 +2,7 @@
 --     kept-size, kept-below, kept-once       k items, all below n, no two the same
 --     stops-own                              a search that stops at row n stops by its own test
 --     rows-least, rows-most                  it stops at row 1 at the earliest and n at the latest
+--     rows-first                             and at no row before
 --     rows-within                            it goes no further than a row at which it stops
 -- Assumes nothing.
 use mathlib.Core.Path.{_≡_, refl, sym, ap, _∙_}
@@ -15,7 +16,7 @@ use Rattle.model.specs.Words.{first}
 use Rattle.model.specs.Given.{Poses}
 use Rattle.model.specs.Accesses.{met}
 use Rattle.model.specs.Searches.{Search, ahead, ranked, among, order, kept, stops, rows}
-use Rattle.laws.specs.Tests.{by-cases, and-yes, first-least, first-most, first-passes, first-within}
+use Rattle.laws.specs.Tests.{by-cases, and-yes, first-least, first-most, first-passes, first-skips, first-within}
 use Rattle.laws.specs.Ahead.{ahead-ordering}
 use Rattle.laws.specs.Ranking.{Sorted, sorted-take, sorted-once, ranked-sorted}
 use Rattle.laws.specs.Kept.{kept-item}
@@ -58,6 +59,10 @@ module _ (s : Poses) (k : ℕ) (r : Search) where
       (λ x.
       let last : at ≡ s .n = omega (arith, ltb-false at (s .n) x, first-most (stops s k r) (s .n - 1) 1) in
       rw last y)
+
+  pub rows-first : (p : ℕ) → 1 ≤ p → p < rows s k r → stops s k r p ≡ false
+  unfolding rows
+  rows-first p h l = first-skips (stops s k r) (s .n - 1) 1 p h l
 
   pub rows-within : (p : ℕ) → 1 ≤ p → stops s k r p ≡ true → rows s k r ≤ p
   unfolding rows

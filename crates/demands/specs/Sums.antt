@@ -2,6 +2,7 @@
 --     sum                        the sum of a list of numbers
 --     sum-append, sum-row, sum-table     over two lists; of a row and of a table whose entries are sums
 --     one-row, one-table         of a row and of a table with a single 1
+--     append-most, row-most, table-most      how large an entry is
 --     Inside                     accesses that all lie in the m lists at the n positions
 --     made-none, made-one        the counts of no access and of one
 --     made-length                the three counts of a list of accesses add up to its length
@@ -15,7 +16,7 @@ use Prim.Native.Nat.{ℕ, zero, suc, _+_, _≤_, _<_}
 use native.Mathlib.Nat.{not-suc-le-zero}
 use native.Mathlib.Omega.{arith}
 use lib.Dec.{eqb}
-use lib.ListN.{length}
+use lib.ListN.{length, getD}
 use borrow.Author.Tests.{eq-eqb, ne-eqb}
 use Rattle.model.specs.Words.{count, row, table}
 use Rattle.model.specs.Given.{Poses}
@@ -75,6 +76,29 @@ once-table j p n zero h = refl
 once-table j p n (suc m) h =
     rw (sum-append (table (λ i d. once (eqb j i && eqb p d)) n m) (row (λ d. once (eqb j m && eqb p d)) n), once-table j p n m h,
       once-list (eqb j m) p n h)
+
+-- no entry of two lists, of a row, of a table is above b where no part is
+pub append-most : (l k : List ℕ) (b x : ℕ) → ((y : ℕ) → getD l y 0 ≤ b) → ((y : ℕ) → getD k y 0 ≤ b) → getD (l ++ k) x 0 ≤ b
+append-most [] k b x h j = j x
+append-most (a ∷ l) k b zero h j = h 0
+append-most (a ∷ l) k b (suc x) h j = append-most l k b x (λ y. h (suc y)) j
+
+one-most : (a b x : ℕ) → a ≤ b → getD (a ∷ []) x 0 ≤ b
+one-most a b zero h = h
+one-most a b (suc x) h = omega arith
+
+pub row-most : (f : ℕ → ℕ) (n b x : ℕ) → ((d : ℕ) → d < n → f d ≤ b) → getD (row f n) x 0 ≤ b
+unfolding row
+row-most f zero b x h = omega arith
+row-most f (suc n) b x h =
+    append-most (row f n) (f n ∷ []) b x (λ y. row-most f n b y (λ d l. h d (omega arith))) (λ y. one-most (f n) b y (h n (omega arith)))
+
+pub table-most : (f : ℕ → ℕ → ℕ) (n m b x : ℕ) → ((i d : ℕ) → i < m → d < n → f i d ≤ b) → getD (table f n m) x 0 ≤ b
+unfolding table
+table-most f n zero b x h = omega arith
+table-most f n (suc m) b x h =
+    append-most (table f n m) (row (f m) n) b x
+    (λ y. table-most f n m b y (λ i d hi hd. h i d (omega arith) hd)) (λ y. row-most (f m) n b y (λ d hd. h m d (omega arith) hd))
 
 -- ---- accesses
 -- all accesses lie in the m lists, at the n positions
