@@ -56,7 +56,7 @@ module _ (s : Poses) (v : Valid s) where
   looked-inside looked-none = inside-none
   looked-inside {k} (looked-more i p hi hp l) = inside-append (looked-inside l) (lookup-inside k i p hi hp)
 
-  pub looked-whole : {k : Kind} {tr : List Access} {c : ℕ} → Looked s k tr c → Whole s v tr
+  pub looked-whole : {k : Kind} {tr : List Access} {c : ℕ} → Looked s k tr c → Whole s tr
   looked-whole looked-none = whole-none s v
   looked-whole {k} (looked-more i p hi hp l) = whole-more s v (looked-whole l) k i p hi hp
 

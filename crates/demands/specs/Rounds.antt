@@ -54,7 +54,7 @@ module _ (s : Poses) (v : Valid s) where
       record { looked = rw unmet looked-none; once-each = λ d hd. omega (arith, times-none 0 (place s 0 d)) }
 
   -- the item at an unvisited position was never looked up
-  unvisited-item : (tr : List Access) (i p : ℕ) → i < s .m → p < s .n → Whole s v tr → visited tr i p ≡ false
+  unvisited-item : (tr : List Access) (i p : ℕ) → i < s .m → p < s .n → Whole s tr → visited tr i p ≡ false
       → times tr 0 (place s 0 (item s i p)) ≡ 0
   unvisited-item tr i p hi hp w z =
       sym (w .alike i (item s i p) hi (v .is-item i p hi hp))

@@ -117,7 +117,7 @@ module _ (s : Poses) (v : Valid s) where
       rw (rows-at p i q hp hi hq) (passing-most (λ j. ltb (place s j (item s i q)) p) (s .m))
 
   -- accesses that are whole and visit the first p positions visit whatever p rows visit
-  pub rows-inside : (p : ℕ) (tr : List Access) → p ≤ s .n → Whole s v tr → Covers s tr p
+  pub rows-inside : (p : ℕ) (tr : List Access) → p ≤ s .n → Whole s tr → Covers s tr p
       → (i q : ℕ) → i < s .m → q < s .n → visited (rowsTA s p) i q ≡ true → visited tr i q ≡ true
   rows-inside p tr hp w c i q hi hq y =
       let d = item s i q in

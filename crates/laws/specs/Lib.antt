@@ -4,11 +4,16 @@
 --     Verdicts   laws of the tests that are made one after the other
 --     Marks      items noted one position after the other, each once: then each item is noted
 --     Accepted   what an accepted pose set keeps: `Valid`
+--     Lookups    what one lookup adds to the accesses made
+--     Meetings   accesses made of whole lookups: an item is visited in all lists or in none
 --     Passing    how many of the numbers below n pass a test
 --     Ahead      the order of the shortlist is a strict total order
 --     Ranking    laws of `insert` and `ranked`, for any order
 --     Kept       the first k items of a ranking
 --     Overall    laws of the overall score: monotone; at most 524,280,000
+--     Opened     one name that opens all definitions of a search
+--     Cases      the worked cases as a search is lent them, and how a table of answers is tested
+--     SixteenRows, OtherCases, RefusedCases      the tables
 pub mod Tests
 pub mod Lists
 pub mod Verdicts

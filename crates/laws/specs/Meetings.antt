@@ -21,6 +21,10 @@ use Rattle.laws.specs.Tests.{by-cases, some-hit, some-none}
 use Rattle.laws.specs.Accepted.{Valid}
 use Rattle.laws.specs.Lookups.{once, times-append, lookup-times}
 
+-- Every item is visited equally often in every list
+pub record Whole (s : Poses) (tr : List Access) : Type 0 where
+  pub alike : (i d : ℕ) → i < s .m → d < s .n → times tr i (place s i d) ≡ times tr 0 (place s 0 d)
+
 module _ (s : Poses) (v : Valid s) where
   pub same-place : (i d e : ℕ) → i < s .m → d < s .n → e < s .n → place s i d ≡ place s i e → d ≡ e
   same-place i d e hi hd he same =
@@ -39,19 +43,15 @@ module _ (s : Poses) (v : Valid s) where
   lookup-at k i p j e hi hp hj he =
       rw (lookup-times s v k i p j (place s j e) hi hp hj, place-eqb j (item s i p) e hj (v .is-item i p hi hp) he)
 
-  -- Every item is visited equally often in every list
-  pub record Whole (tr : List Access) : Type 0 where
-    pub alike : (i d : ℕ) → i < s .m → d < s .n → times tr i (place s i d) ≡ times tr 0 (place s 0 d)
-
-  pub whole-none : Whole []
+  pub whole-none : Whole s []
   unfolding times count
   whole-none = record { alike = λ i d hi hd. refl }
 
   list-one : 0 < s .m
   list-one = v .size .m-least
 
-  module _ {tr : List Access} (w : Whole tr) where
-    pub whole-more : (k : Kind) (i p : ℕ) → i < s .m → p < s .n → Whole (tr ++ lookup s k i p)
+  module _ {tr : List Access} (w : Whole s tr) where
+    pub whole-more : (k : Kind) (i p : ℕ) → i < s .m → p < s .n → Whole s (tr ++ lookup s k i p)
     whole-more k i p hi hp =
         record {
           alike = λ j d hj hd.
@@ -71,7 +71,7 @@ module _ (s : Poses) (v : Valid s) where
           (λ i hi. ap (leb 1) (w .alike i d hi hd) ∙ z)))
 
   -- after a lookup the item that it found is met too, and no other
-  pub met-more : {tr : List Access} → Whole tr → (k : Kind) (i p e : ℕ) → i < s .m → p < s .n → e < s .n → met s (tr ++ lookup s k i p) e ≡ (met s tr e || eqb e (item s i p))
+  pub met-more : {tr : List Access} → Whole s tr → (k : Kind) (i p e : ℕ) → i < s .m → p < s .n → e < s .n → met s (tr ++ lookup s k i p) e ≡ (met s tr e || eqb e (item s i p))
   met-more {tr} w k i p e hi hp he =
       rw (met-is w e he, met-is (whole-more w k i p hi hp) e he, times-append tr (lookup s k i p) 0 (place s 0 e), lookup-at k i p 0 e hi hp list-one he)
       (one-more (times tr 0 (place s 0 e)) (item s i p) e)

@@ -1,0 +1,3 @@
+// The searches that look an item's whole score up: TA, BPA and BPA2.
+mod shortlist;
+mod visits;
