@@ -1,31 +1,29 @@
 -- NRA over a valid pose set: what it has read, and its bounds.
---     nra-times, nra-visited     after p rows the first p positions of every list are visited, each once, and nothing else
+--     nra-times, nra-visited     after p rows the first p positions of every list are visited, each once, and no others
 --     nra-inside                 its accesses lie inside
 --     nra-made                   p rows are p * m sorted accesses and no others
 --     low-bound, high-bound      an item's overall score lies between its low and its high, after any number of rows
 --     nra-stops, nra-best        it stops at row n, and where it stops no item left out scores above one returned
 -- Assumes nothing.
-use mathlib.Core.Path.{_≡_, refl, sym, ap, _∙_}
+use mathlib.Core.Path.{_≡_, sym, _∙_}
 use mathlib.Core.Bool.{Bool, true, false, cond, _&&_, _||_, and-true, and-false}
-use mathlib.Core.Logic.{_≢_, ⊎-elim}
-use mathlib.Core.List.{List, [], _∷_, _++_}
+use mathlib.Core.List.{List, [], _∷_}
 use Prim.Native.Nat.{ℕ, zero, suc, _+_, _-_, _*_, _≤_, _<_}
 use native.Mathlib.Nat.{zero-mul, suc-mul}
 use native.Mathlib.Omega.{arith}
 use lib.Dec.{eqb, leb, ltb}
 use lib.ListN.{length, take, length-take}
-use borrow.Author.Tests.{eqb-true, eqb-false, eq-eqb, ltb-true, ltb-false, lt-ltb, le-ltb, leb-true, le-leb, lt-leb}
-use Rattle.model.specs.Words.{count, lastOf, everyBelow}
-use Rattle.model.specs.Given.{Poses, Query, score, place, overall, total}
-use Rattle.model.specs.Accesses.{Kind, sorted, direct, random, Access, access, sameKind, rowNRA, rowsNRA, times, visited, met, made}
+use borrow.Author.Tests.{ltb-false, lt-ltb, le-ltb, leb-true, le-leb}
+use Rattle.model.specs.Words.{lastOf, everyBelow}
+use Rattle.model.specs.Given.{Poses, Query, score, place, total}
+use Rattle.model.specs.Accesses.{Kind, sorted, access, sameKind, rowNRA, rowsNRA, times, visited, met, made}
 use Rattle.model.specs.Searches.{ahead, ranked, among, order, kept, stops, readOr, lowNRA, highNRA, NRA}
 use Rattle.laws.specs.Tests.{by-cases, and-yes, every-all, every-at}
 use Rattle.laws.specs.Accepted.{Valid}
 use Rattle.laws.specs.Lookups.{once, times-append, times-one, made-append}
 use Rattle.laws.specs.Passing.{passing-all, eqb-swap}
-use Rattle.laws.specs.Ahead.{ahead-ordering, ahead-low}
 use Rattle.laws.specs.Ranking.{ranked-length}
-use Rattle.laws.specs.Kept.{kept-item, kept-others, kept-each}
+use Rattle.laws.specs.Kept.{kept-item, kept-low, left-low}
 use Rattle.laws.specs.Overall.{overall-rises, overall-same}
 use Rattle.demands.specs.Sums.{made-none, made-one, Inside, inside-none, inside-more, inside-append}
 use Rattle.demands.specs.Visits.{times-none, visited-met}
@@ -36,7 +34,8 @@ row-times : (p i j x : ℕ) → times (rowNRA p i) j x ≡ once (ltb j i && eqb 
 unfolding rowNRA
 row-times p zero j x = rw (le-ltb j 0 (omega arith)) (times-none j x)
 row-times p (suc i) j x =
-    rw (times-append (rowNRA p i) (access sorted i p ∷ []) j x, row-times p i j x, times-one sorted i p j x) (one-list (eqb p x))
+    rw (times-append (rowNRA p i) (access sorted i p ∷ []) j x, row-times p i j x, times-one sorted i p j x)
+    (one-list (eqb p x))
   where
     one-list : (b : Bool) → once (ltb j i && b) + once (eqb i j && b) ≡ once (ltb j (suc i) && b)
     one-list true = rw (and-true (ltb j i), and-true (eqb i j), and-true (ltb j (suc i)), eqb-swap i j) (once-next j i)
@@ -46,8 +45,8 @@ pub nra-times : (s : Poses) (p j x : ℕ) → j < s .m → times (rowsNRA s p) j
 unfolding rowsNRA
 nra-times s zero j x hj = rw (le-ltb x 0 (omega arith)) (times-none j x)
 nra-times s (suc p) j x hj =
-    rw (times-append (rowsNRA s p) (rowNRA p (s .m)) j x, nra-times s p j x hj, row-times p (s .m) j x, lt-ltb j (s .m) hj, eqb-swap p x)
-    (once-next x p)
+    rw (times-append (rowsNRA s p) (rowNRA p (s .m)) j x, nra-times s p j x hj)
+    (rw (row-times p (s .m) j x, lt-ltb j (s .m) hj, eqb-swap p x) (once-next x p))
 
 pub nra-visited : (s : Poses) (p j x : ℕ) → j < s .m → visited (rowsNRA s p) j x ≡ ltb x p
 unfolding visited
@@ -71,7 +70,8 @@ row-made : (k : Kind) (p i : ℕ) → made k (rowNRA p i) ≡ i * once (sameKind
 unfolding rowNRA
 row-made k p zero = made-none k ∙ sym (zero-mul (once (sameKind sorted k)))
 row-made k p (suc i) =
-    rw (made-append k (rowNRA p i) (access sorted i p ∷ []), row-made k p i, made-one k sorted i p) (sym (suc-mul i (once (sameKind sorted k))))
+    rw (made-append k (rowNRA p i) (access sorted i p ∷ []), row-made k p i, made-one k sorted i p)
+    (sym (suc-mul i (once (sameKind sorted k))))
 
 pub nra-made : (s : Poses) (k : Kind) (p : ℕ) → made k (rowsNRA s p) ≡ p * (s .m * once (sameKind sorted k))
 unfolding rowsNRA
@@ -142,7 +142,8 @@ module _ (s : Poses) (v : Valid s) (q : Query) where
         let one = v .size .m-least in
         visited-met s (rowsNRA s (s .n)) 0 d one
         (nra-visited s (s .n) 0 (place s 0 d) one ∙ lt-ltb (place s 0 d) (s .n) (v .has-place 0 d one hd)) in
-        let all : length (standing (s .n)) ≡ s .n = ranked-length (ahead low high) m (s .n) ∙ passing-all m (s .n) each in
+        let all : length (standing (s .n)) ≡ s .n =
+        ranked-length (ahead low high) m (s .n) ∙ passing-all m (s .n) each in
         let full : length l ≡ k = omega (arith, length-take k (standing (s .n))) in
         rw (le-leb k (length l) (omega arith))
         (every-all (λ d. among d l || leb (high d) (low (lastOf 0 l))) (s .n)
@@ -150,9 +151,9 @@ module _ (s : Poses) (v : Valid s) (q : Query) where
         by-cases (among d l)
         (λ (y : among d l ≡ true). rw y)
         (λ (z : among d l ≡ false).
-        let after = kept-others (ahead low high) (ahead-ordering low high) m (s .n) k some full d hd (each d hd) z in
         let both : high d ≡ low d = high-last d hd ∙ sym (low-last d hd) in
-        rw z (le-leb (high d) (low (lastOf 0 l)) (omega (arith, ahead-low low high (lastOf 0 l) d after))))))
+        let left = left-low low high m (s .n) k some full d hd (each d hd) z in
+        rw z (le-leb (high d) (low (lastOf 0 l)) (omega arith)))))
 
     pub nra-best : (p d e : ℕ) → stops s k (NRA s q) p ≡ true → d < s .n → among d (kept s k (NRA s q) p) ≡ false
         → among e (kept s k (NRA s q) p) ≡ true → total s q d ≤ total s q e
@@ -168,10 +169,6 @@ module _ (s : Poses) (v : Valid s) (q : Query) where
         let full : length l ≡ k = omega (arith, leb-true k (length l) (parts .0), length-take k (standing p)) in
         let test : t d ≡ true = every-at t (s .n) d (parts .1) hd in
         let below : high d ≤ low last = leb-true (high d) (low last) (rw out at test) in
-        let above : low last ≤ low e =
-        ⊎-elim
-        (λ (same : e ≡ last). rw same (omega arith))
-        (λ a. ahead-low low high e last a)
-        (kept-each (ahead low high) (ahead-ordering low high) m (s .n) k some full e inside) in
+        let above = kept-low low high m (s .n) k some full e inside in
         let in-set = kept-item (ahead low high) m (s .n) k e inside in
         omega (arith, high-bound p d hd, low-bound p e (in-set .0))

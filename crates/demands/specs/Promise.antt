@@ -43,8 +43,7 @@ pub record Owed (s : Poses) (q : Query) (k : ℕ) (r : Search) : Type 0 where
 
 -- all accesses that a search makes until it stops
 unfoldable pub allMade : Poses → ℕ → Search → ℕ
-allMade s k r =
-    made sorted (r .accesses (rows s k r)) + made direct (r .accesses (rows s k r)) + made random (r .accesses (rows s k r))
+allMade s k r = let tr = r .accesses (rows s k r) in made sorted tr + made direct tr + made random tr
 
 pub record Promise (s : Poses) (q : Query) (k : ℕ) : Type 0 where
   -- each stops by its own test and returns k different items, and no item left out scores above one returned

@@ -5,8 +5,8 @@
 --     rows-first                             and at no row before
 --     rows-within                            it goes no further than a row at which it stops
 -- Assumes nothing.
-use mathlib.Core.Path.{_≡_, refl, sym, ap, _∙_}
-use mathlib.Core.Bool.{true, false, _&&_}
+use mathlib.Core.Path.{_≡_}
+use mathlib.Core.Bool.{true, false}
 use Prim.Native.Nat.{ℕ, _-_, _≤_, _<_}
 use native.Mathlib.Omega.{arith}
 use lib.Dec.{leb, ltb}
@@ -18,7 +18,7 @@ use Rattle.model.specs.Accesses.{met}
 use Rattle.model.specs.Searches.{Search, ahead, ranked, among, order, kept, stops, rows}
 use Rattle.laws.specs.Tests.{by-cases, and-yes, first-least, first-most, first-passes, first-skips, first-within}
 use Rattle.laws.specs.Ahead.{ahead-ordering}
-use Rattle.laws.specs.Ranking.{Sorted, sorted-take, sorted-once, ranked-sorted}
+use Rattle.laws.specs.Ranking.{sorted-take, sorted-once, ranked-sorted}
 use Rattle.laws.specs.Kept.{kept-item}
 
 module _ (s : Poses) (k : ℕ) (r : Search) where
@@ -38,8 +38,9 @@ module _ (s : Poses) (k : ℕ) (r : Search) where
   kept-once p =
       let before = ahead (r .low p) (r .high p) in
       let o = ahead-ordering (r .low p) (r .high p) in
-      let all = ranked before (met s (r .accesses p)) (s .n) in
-      sorted-once before o (take k all) (sorted-take before k all (ranked-sorted before o (met s (r .accesses p)) (s .n)))
+      let t = met s (r .accesses p) in
+      let all = ranked before t (s .n) in
+      sorted-once before o (take k all) (sorted-take before k all (ranked-sorted before o t (s .n)))
 
   pub rows-least : 1 ≤ rows s k r
   unfolding rows
