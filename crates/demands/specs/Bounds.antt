@@ -20,13 +20,13 @@ use Rattle.model.specs.Accesses.{Kind, sorted, access, sameKind, rowNRA, rowsNR
 use Rattle.model.specs.Searches.{ahead, ranked, among, order, kept, stops, readOr, lowNRA, highNRA, NRA}
 use Rattle.laws.specs.Tests.{by-cases, and-yes, every-all, every-at}
 use Rattle.laws.specs.Accepted.{Valid}
-use Rattle.laws.specs.Lookups.{once, times-append, times-one, made-append}
+use Rattle.laws.specs.Lookups.{once, times-append, times-one, made-append, times-none, made-none, made-one}
 use Rattle.laws.specs.Passing.{passing-all, eqb-swap}
 use Rattle.laws.specs.Ranking.{ranked-length}
 use Rattle.laws.specs.Kept.{kept-item, kept-low, left-low}
 use Rattle.laws.specs.Overall.{overall-rises, overall-same}
-use Rattle.demands.specs.Sums.{made-none, made-one, Inside, inside-none, inside-more, inside-append}
-use Rattle.demands.specs.Visits.{times-none, visited-met}
+use Rattle.demands.specs.Sums.{Inside, inside-none, inside-more, inside-append}
+use Rattle.demands.specs.Visits.{visited-met}
 use Rattle.demands.specs.Rows.{once-next}
 
 -- ---- its accesses

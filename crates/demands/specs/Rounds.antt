@@ -1,4 +1,6 @@
 -- The rounds of BPA2 over a valid pose set.
+--     none-met                   no access, no item met
+--     by-turn                    a turn at a list by its two cases
 --     Turns                      lookups by direct accesses, one for each item met, and no item looked up twice
 --     turn-next, rounds-turns    a turn at a list keeps this; so it holds after any number of rounds
 --     rounds-once                no position of any list is visited twice
@@ -20,10 +22,10 @@ use Rattle.model.specs.Given.{Poses, item, place}
 use Rattle.model.specs.Accesses.{Access, direct, lookup, next, round, rounds, times, visited, met, best}
 use Rattle.laws.specs.Tests.{by-cases, below-suc, some-none}
 use Rattle.laws.specs.Accepted.{Valid}
-use Rattle.laws.specs.Lookups.{times-append, lookup-times}
+use Rattle.laws.specs.Lookups.{times-append, lookup-times, times-none}
 use Rattle.laws.specs.Meetings.{Whole, met-is, met-more, lookup-at}
 use Rattle.laws.specs.Passing.{passing, passing-none, passing-more}
-use Rattle.demands.specs.Visits.{times-none, Covers, least-visited, unvisited, visited-more, best-most, best-visited, best-free, best-reaches}
+use Rattle.demands.specs.Visits.{Covers, least-visited, unvisited, visited-more, best-most, best-visited, best-free, best-reaches}
 use Rattle.demands.specs.Looked.{Looked, looked-none, looked-more, looked-whole, lookup-length}
 
 none-met : (s : Poses) (d : ℕ) → met s [] d ≡ false
@@ -98,7 +100,7 @@ module _ (s : Poses) (v : Valid s) where
   rounds-turns zero = turns-none
   rounds-turns (suc r) = round-turns (rounds s r) (s .m) (omega arith) (rounds-turns r)
 
-  -- "no position twice"
+  -- no position is visited twice
   pub rounds-once : (r i p : ℕ) → i < s .m → p < s .n → times (rounds s r) i p ≤ 1
   rounds-once r i p hi hp =
       let t = rounds-turns r in

@@ -20,11 +20,10 @@ use Rattle.model.specs.Given.{Poses, item, place}
 use Rattle.model.specs.Accesses.{Kind, sorted, Access, lookup, rowTA, rowsTA, times, visited, made}
 use Rattle.laws.specs.Tests.{by-cases, some-found}
 use Rattle.laws.specs.Accepted.{Valid}
-use Rattle.laws.specs.Lookups.{once, times-append, made-append}
+use Rattle.laws.specs.Lookups.{once, times-append, made-append, times-none, made-none}
 use Rattle.laws.specs.Meetings.{Whole, lookup-at, place-eqb}
 use Rattle.laws.specs.Passing.{passing, passing-most, passing-none, passing-some, some-passing, eqb-swap}
-use Rattle.demands.specs.Sums.{made-none}
-use Rattle.demands.specs.Visits.{times-none, Covers, visited-least, least-visited}
+use Rattle.demands.specs.Visits.{Covers, visited-least, least-visited}
 use Rattle.demands.specs.Looked.{Looked, looked-none, looked-more}
 
 module _ (s : Poses) where

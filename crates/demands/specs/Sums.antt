@@ -1,10 +1,10 @@
 -- The three counts add up to the sum of the tally.
 --     sum                        the sum of a list of numbers
 --     sum-append, sum-row, sum-table     over two lists; of a row and of a table whose entries are sums
---     one-row, one-table         of a row and of a table with a single 1
+--     none-row, none-table       of a row and of a table of zeros
+--     once-row, once-table       of a row of tests, how many pass; of a table with a single 1
 --     append-most, row-most, table-most      how large an entry is
---     Inside                     accesses that all lie in the m lists at the n positions
---     made-none, made-one        the counts of no access and of one
+--     Inside, inside-append      accesses that all lie in the m lists at the n positions; two such lists in one
 --     made-length                the three counts of a list of accesses add up to its length
 --     tally-length               and so does its tally, where all accesses lie inside
 --     tally-sum                  so the three counts add up to the tally's sum
@@ -18,10 +18,11 @@ use lib.Dec.{eqb}
 use lib.ListN.{length, getD}
 use Rattle.model.specs.Words.{count, row, table}
 use Rattle.model.specs.Given.{Poses}
-use Rattle.model.specs.Accesses.{Kind, sorted, direct, random, Access, access, sameKind, times, made, tally}
+use Rattle.model.specs.Accesses.{Kind, sorted, direct, random, Access, sameKind, times, made, tally}
 use Rattle.laws.specs.Passing.{passing, passing-none, passing-one}
 use Rattle.laws.specs.Lookups.{once}
 
+-- the numbers of a list, added
 unfoldable pub sum : List ℕ → ℕ
 sum [] = 0
 sum (x ∷ l) = x + sum l
@@ -115,14 +116,6 @@ pub data Inside (s : Poses) : List Access → Type 0 where
 pub inside-append : {s : Poses} {tr more : List Access} → Inside s tr → Inside s more → Inside s (tr ++ more)
 inside-append inside-none b = b
 inside-append (inside-more l p a) b = inside-more l p (inside-append a b)
-
-pub made-none : (k : Kind) → made k [] ≡ 0
-unfolding made count
-made-none k = refl
-
-pub made-one : (k a : Kind) (i p : ℕ) → made k (access a i p ∷ []) ≡ once (sameKind a k)
-unfolding made count
-made-one k a i p = omega arith
 
 -- an access is of one kind
 one-kind : (k : Kind) → once (sameKind k sorted) + once (sameKind k direct) + once (sameKind k random) ≡ 1

@@ -1,5 +1,4 @@
 -- What a list of accesses has visited: best positions, and the first p positions of every list.
---     times-none                 no access, no visit
 --     visited-least, least-visited, unvisited    visited is visited once or more
 --     visited-more               what was visited stays visited
 --     best-most                  a best position is at most n
@@ -9,22 +8,18 @@
 --     visited-met                an item is met where one of its places is visited
 --     unmet-unvisited, unmet-below       an unmet item's places are not, and lie below whatever is visited from the top
 -- Assumes nothing.
-use mathlib.Core.Path.{_≡_, refl, sym, _∙_}
+use mathlib.Core.Path.{_≡_, sym, _∙_}
 use mathlib.Core.Bool.{true, false, not, true≢false}
-use mathlib.Core.List.{List, [], _++_}
+use mathlib.Core.List.{List, _++_}
 use Prim.Native.Nat.{ℕ, _≤_, _<_}
 use native.Mathlib.Omega.{arith}
 use lib.Dec.{ltb}
 use borrow.Author.Tests.{leb-true, leb-false, le-leb, ltb-true, ltb-false, not-true, not-false}
-use Rattle.model.specs.Words.{first, count}
+use Rattle.model.specs.Words.{first}
 use Rattle.model.specs.Given.{Poses, place}
 use Rattle.model.specs.Accesses.{Access, times, visited, met, best}
 use Rattle.laws.specs.Tests.{by-cases, some-hit, some-not, first-most, first-passes, first-skips}
 use Rattle.laws.specs.Lookups.{times-append}
-
-pub times-none : (i p : ℕ) → times [] i p ≡ 0
-unfolding times count
-times-none i p = refl
 
 -- visited is visited at least once
 pub visited-least : (tr : List Access) (i p : ℕ) → visited tr i p ≡ true → 1 ≤ times tr i p
