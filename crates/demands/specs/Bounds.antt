@@ -25,9 +25,9 @@ use Rattle.laws.specs.Passing.{passing-all, eqb-swap}
 use Rattle.laws.specs.Ranking.{ranked-length}
 use Rattle.laws.specs.Kept.{kept-item, kept-low, left-low}
 use Rattle.laws.specs.Overall.{overall-rises, overall-same}
-use Rattle.demands.specs.Sums.{Inside, inside-none, inside-more, inside-append}
-use Rattle.demands.specs.Visits.{visited-met}
-use Rattle.demands.specs.Rows.{once-next}
+use Rattle.laws.specs.Sums.{Inside, inside-none, inside-more, inside-append}
+use Rattle.laws.specs.Visits.{visited-met}
+use Rattle.laws.specs.Rows.{once-next}
 
 -- ---- its accesses
 row-times : (p i j x : ℕ) → times (rowNRA p i) j x ≡ once (ltb j i && eqb p x)

@@ -11,10 +11,10 @@ use Rattle.model.specs.Accesses.{Access, rowsTA, rounds, visited, met, best}
 use Rattle.model.specs.Searches.{stops, threshold, TA, BPA, BPA2}
 use Rattle.laws.specs.Tests.{some-found}
 use Rattle.laws.specs.Accepted.{Valid}
-use Rattle.demands.specs.Visits.{visited-met, best-most, best-reaches, best-wider}
-use Rattle.demands.specs.Looked.{looked-whole}
-use Rattle.demands.specs.Rows.{rows-covers, rows-inside}
-use Rattle.demands.specs.Rounds.{rounds-turns, rounds-covers}
+use Rattle.laws.specs.Visits.{visited-met, best-most, best-reaches, best-wider}
+use Rattle.laws.specs.Looked.{looked-whole}
+use Rattle.laws.specs.Rows.{rows-covers, rows-inside}
+use Rattle.laws.specs.Rounds.{rounds-turns, rounds-covers}
 use Rattle.demands.specs.Scores.{stops-sooner, threshold-falls}
 
 pub met-wider : (s : Poses) → Valid s → (tr more : List Access)

@@ -13,7 +13,7 @@ use Rattle.model.specs.Given.{Poses, Query, total}
 use Rattle.model.specs.Accesses.{Access, sorted, direct, random, rowsTA, rounds, rowsNRA, times, met, made, tally}
 use Rattle.model.specs.Searches.{Search, among, kept, stops, rows, TA, BPA, BPA2, NRA, lowNRA, highNRA}
 use Rattle.laws.specs.Passing.{passing}
-use Rattle.demands.specs.Sums.{sum}
+use Rattle.laws.specs.Sums.{sum}
 
 -- "Tally: It is at most m. The three counts add up to its sum."
 pub record Tallied (s : Poses) (tr : List Access) : Type 0 where

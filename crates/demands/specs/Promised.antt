@@ -20,10 +20,10 @@ use Rattle.model.specs.Searches.{Search, among, kept, stops, rows, threshold, b
 use Rattle.laws.specs.Accepted.{Valid}
 use Rattle.laws.specs.Lookups.{once, lookup-made-own, lookup-made-other, lookup-made-random}
 use Rattle.laws.specs.Passing.{passing}
-use Rattle.demands.specs.Sums.{Inside, made-length, tally-sum, table-most}
-use Rattle.demands.specs.Looked.{Looked, looked-inside, looked-length, looked-own, looked-other, looked-random}
-use Rattle.demands.specs.Rows.{rows-looked, rows-made, rows-covers, rows-most}
-use Rattle.demands.specs.Rounds.{rounds-turns, rounds-once, rounds-covers, rounds-length}
+use Rattle.laws.specs.Sums.{Inside, made-length, tally-sum, table-most}
+use Rattle.laws.specs.Looked.{Looked, looked-inside, looked-length, looked-own, looked-other, looked-random}
+use Rattle.laws.specs.Rows.{rows-looked, rows-made, rows-covers, rows-most}
+use Rattle.laws.specs.Rounds.{rounds-turns, rounds-once, rounds-covers, rounds-length}
 use Rattle.demands.specs.Stopping
 use Rattle.demands.specs.Scores.{Sound, sound-stops, sound-best, covers-sound, best-sound}
 use Rattle.demands.specs.Compared.{bpa-stops, bpa2-stops}

@@ -28,7 +28,7 @@ use Rattle.laws.specs.Ahead.{ahead-ordering, ahead-low}
 use Rattle.laws.specs.Ranking.{Sorted, ranked-sorted, ranked-count}
 use Rattle.laws.specs.Kept.{kept-last, kept-low, left-low, kth-passes, kth-counts}
 use Rattle.laws.specs.Overall.{overall-rises}
-use Rattle.demands.specs.Visits.{Covers, visited-met, unmet-below, best-most, best-visited, best-reaches}
+use Rattle.laws.specs.Visits.{Covers, visited-met, unmet-below, best-most, best-visited, best-reaches}
 
 module _ (s : Poses) (q : Query) (f : ℕ → List Access) (h : ℕ → ℕ) where
   -- the items met in p rows that score h or more

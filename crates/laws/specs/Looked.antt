@@ -15,11 +15,11 @@ use lib.Dec.{eqb}
 use lib.ListN.{length, length-append}
 use Rattle.model.specs.Given.{Poses, item}
 use Rattle.model.specs.Accesses.{Kind, sorted, direct, random, Access, sameKind, randoms, lookup, made}
 use Rattle.laws.specs.Tests.{by-cases}
 use Rattle.laws.specs.Accepted.{Valid}
 use Rattle.laws.specs.Lookups.{made-append, lookup-made-own, lookup-made-other, lookup-made-random, made-none}
 use Rattle.laws.specs.Meetings.{Whole, whole-none, whole-more}
-use Rattle.demands.specs.Sums.{Inside, inside-none, inside-more, inside-append, made-length}
+use Rattle.laws.specs.Sums.{Inside, inside-none, inside-more, inside-append, made-length}
 
 -- tr is c lookups, each begun by an access of kind k
 pub data Looked (s : Poses) (k : Kind) : List Access → ℕ → Type 0 where

@@ -20,13 +20,13 @@ use lib.ListN.{length, length-append}
 use borrow.Author.Tests.{eqb-true, eqb-false, eq-eqb, ltb-true, ltb-false, lt-leb}
 use Rattle.model.specs.Given.{Poses, item, place}
 use Rattle.model.specs.Accesses.{Access, direct, lookup, next, round, rounds, times, visited, met, best}
 use Rattle.laws.specs.Tests.{by-cases, below-suc, some-none}
 use Rattle.laws.specs.Accepted.{Valid}
 use Rattle.laws.specs.Lookups.{times-append, lookup-times, times-none}
 use Rattle.laws.specs.Meetings.{Whole, met-is, met-more, lookup-at}
 use Rattle.laws.specs.Passing.{passing, passing-none, passing-more}
-use Rattle.demands.specs.Visits.{Covers, least-visited, unvisited, visited-more, best-most, best-visited, best-free, best-reaches}
-use Rattle.demands.specs.Looked.{Looked, looked-none, looked-more, looked-whole, lookup-length}
+use Rattle.laws.specs.Visits.{Covers, least-visited, unvisited, visited-more, best-most, best-visited, best-free, best-reaches}
+use Rattle.laws.specs.Looked.{Looked, looked-none, looked-more, looked-whole, lookup-length}
 
 none-met : (s : Poses) (d : ℕ) → met s [] d ≡ false
 unfolding met visited
