@@ -6,6 +6,11 @@
 --     Accepted   what an accepted pose set keeps: `Valid`
 --     Lookups    what one lookup adds to the accesses made
 --     Meetings   accesses made of whole lookups: an item is visited in all lists or in none
+--     Sums       the three counts add up to the sum of the tally
+--     Visits     best positions, and the first p positions of every list
+--     Looked     how many accesses of each kind whole lookups make
+--     Rows       the rows of TA and BPA: what they visit, at most m times
+--     Rounds     the rounds of BPA2: no position twice, and how far they reach
 --     Passing    how many of the numbers below n pass a test
 --     Ahead      the order of the shortlist is a strict total order
 --     Ranking    laws of `insert` and `ranked`, for any order
@@ -26,6 +31,11 @@ pub mod Ahead
 pub mod Ranking
 pub mod Kept
 pub mod Overall
+pub mod Sums
+pub mod Visits
+pub mod Looked
+pub mod Rows
+pub mod Rounds
 pub mod Opened
 pub mod Cases
 pub mod SixteenRows

@@ -1,5 +1,6 @@
 -- The rows of TA and BPA over a valid pose set.
---     rows-looked        p rows are p * m lookups
+--     row-looked, rows-looked    the first i lists of a row are i lookups; p rows are p * m lookups
+--     row-within         the first lists of a row visit no position more often than more of them do
 --     rows-made          p rows make p * m times as many accesses of a kind as a lookup does
 --     once-next          what is below suc p is below p or is p
 --     rows-visits, rows-at       an item's places are visited once for each list that has it among its first p positions
@@ -9,10 +10,10 @@
 -- Assumes nothing.
 use mathlib.Core.Path.{_≡_, refl, sym, ap, _∙_}
 use mathlib.Core.Bool.{Bool, true, false}
-use mathlib.Core.Logic.{_≢_}
+use mathlib.Core.Logic.{_≢_, ⊎-elim}
 use mathlib.Core.List.{List, _++_, append-assoc, append-nil}
 use Prim.Native.Nat.{ℕ, zero, suc, _+_, _*_, _≤_, _<_}
-use native.Mathlib.Nat.{zero-mul, suc-mul, add-zero, add-suc}
+use native.Mathlib.Nat.{zero-mul, suc-mul, add-zero, add-suc, eq-or-lt-of-le}
 use native.Mathlib.Omega.{arith}
 use lib.Dec.{eqb, ltb}
 use borrow.Author.Tests.{eqb-true, eqb-false, ne-eqb, ltb-true, ltb-false, lt-ltb, le-ltb}
@@ -27,7 +28,7 @@ use Rattle.laws.specs.Visits.{Covers, visited-least, least-visited}
 use Rattle.laws.specs.Looked.{Looked, looked-none, looked-more}
 
 module _ (s : Poses) where
-  row-looked : {tr : List Access} {c : ℕ} (p i : ℕ) → p < s .n → i ≤ s .m → Looked s sorted tr c
+  pub row-looked : {tr : List Access} {c : ℕ} (p i : ℕ) → p < s .n → i ≤ s .m → Looked s sorted tr c
       → Looked s sorted (tr ++ rowTA s p i) (c + i)
   unfolding rowTA
   row-looked {tr} {c} p zero hp hi l = rw (append-nil tr, add-zero c) l
@@ -110,6 +111,17 @@ module _ (s : Poses) (v : Valid s) where
         row-visits p (s .m) j d hp (omega arith) hj hd,
       )
       (below-next (λ i. place s i d) p (s .m))
+
+  -- fewer lists of a row visit no position more often
+  pub row-within : (p i b j x : ℕ) → i ≤ b → times (rowTA s p i) j x ≤ times (rowTA s p b) j x
+  unfolding rowTA
+  row-within p i zero j x h = let none : i ≡ 0 = omega arith in rw none (omega arith)
+  row-within p i (suc b) j x h =
+      let last = times-append (rowTA s p b) (lookup s sorted b p) j x in
+      ⊎-elim
+      (λ (e : i ≡ suc b). rw e (omega arith))
+      (λ (l : i < suc b). omega (arith, row-within p i b j x (omega arith)))
+      (eq-or-lt-of-le h)
 
   -- the same by position
   pub rows-at : (p i q : ℕ) → p ≤ s .n → i < s .m → q < s .n

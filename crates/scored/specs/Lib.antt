@@ -1,3 +1,5 @@
 -- What TA, BPA and BPA2 share.
---     Contracts      the records that the functions' contracts cite
+--     Contracts      the records that the contracts of the shortlist and of the visits cite
+--     State          the state of a search against the accesses made, and what one step does to it
 pub mod Contracts
+pub mod State

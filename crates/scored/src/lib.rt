@@ -1,3 +1,4 @@
 // The searches that look an item's whole score up: TA, BPA and BPA2.
+mod rows;
 mod shortlist;
 mod visits;
