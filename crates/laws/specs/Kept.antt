@@ -3,12 +3,13 @@
 --     take-among, among-take         where an item of them stands, and back
 --     kept-before, kept-after        each of them is the last or stands before it; every other entry stands after it
 --     kept-item                      each of the first k ranked items is an item and passes the test
---     kept-others, kept-each         each passing item that is left out stands after the last kept; each kept is the last or before it
---     kth-passes, kth-counts         a test that goes on to whatever stands before: k entries pass exactly when the k-th does
+--     kept-others, kept-each         each passing item left out stands after the last kept; each kept is the last or before it
+--     kept-low, left-low             no kept item has a smaller low than the last kept, and none left out a greater one
+--     kth-passes, kth-counts         a test that goes on to whatever stands before: k entries pass just when the k-th does
 -- Assumes nothing.
 use mathlib.Core.Path.{_≡_, refl, sym, ap, _∙_}
 use mathlib.Core.Bool.{Bool, true, false, cond, true≢false}
-use mathlib.Core.Logic.{_⊎_, inl, inr}
+use mathlib.Core.Logic.{_⊎_, inl, inr, ⊎-elim}
 use mathlib.Core.List.{List, [], _∷_}
 use Prim.Native.Nat.{ℕ, zero, suc, _+_, _-_, _≤_, _<_}
 use native.Mathlib.Nat.{not-suc-le-zero, le-of-suc-le-suc}
@@ -18,9 +19,9 @@ use lib.ListN.{length, getD, take, length-take}
 use lib.Seq.{getD-take}
 use borrow.Author.Tests.{ltb-true, ltb-false, lt-ltb}
 use Rattle.model.specs.Words.{count, lastOf}
-use Rattle.model.specs.Searches.{ranked, among}
+use Rattle.model.specs.Searches.{ahead, ranked, among}
 use Rattle.laws.specs.Tests.{by-cases, and-yes}
-use Rattle.laws.specs.Ahead.{Ordering}
+use Rattle.laws.specs.Ahead.{Ordering, ahead-ordering, ahead-low}
 use Rattle.laws.specs.Ranking.{Sorted, among-at, among-found, sorted-tail, ranked-among, ranked-sorted}
 
 -- ---- the first k
@@ -138,3 +139,23 @@ module _ (before : ℕ → ℕ → Bool) (o : Ordering before) (t : ℕ → Bool
   pub kept-each : (d : ℕ) → among d (take k (ranked before t n)) ≡ true
       → (d ≡ lastOf 0 (take k (ranked before t n))) ⊎ (before d (lastOf 0 (take k (ranked before t n))) ≡ true)
   kept-each d y = kept-before before (ranked before t n) (ranked-sorted before o t n) k some enough d y
+
+-- ---- in the order of the shortlist
+module _ (low high : ℕ → ℕ) (t : ℕ → Bool) (n k : ℕ)
+    (some : 1 ≤ k) (full : length (take k (ranked (ahead low high) t n)) ≡ k) where
+  -- no kept item has a smaller low than the last kept
+  pub kept-low : (e : ℕ) → among e (take k (ranked (ahead low high) t n)) ≡ true
+      → low (lastOf 0 (take k (ranked (ahead low high) t n))) ≤ low e
+  kept-low e y =
+      let last = lastOf 0 (take k (ranked (ahead low high) t n)) in
+      ⊎-elim
+      (λ (same : e ≡ last). rw same (omega arith))
+      (λ a. ahead-low low high e last a)
+      (kept-each (ahead low high) (ahead-ordering low high) t n k some full e y)
+
+  -- and no passing item that is left out has a greater one
+  pub left-low : (d : ℕ) → d < n → t d ≡ true → among d (take k (ranked (ahead low high) t n)) ≡ false
+      → low d ≤ low (lastOf 0 (take k (ranked (ahead low high) t n)))
+  left-low d l y z =
+      ahead-low low high (lastOf 0 (take k (ranked (ahead low high) t n))) d
+      (kept-others (ahead low high) (ahead-ordering low high) t n k some full d l y z)

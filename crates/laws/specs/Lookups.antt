@@ -39,7 +39,7 @@ pub times-cons : (k : Kind) (i p : ℕ) (tr : List Access) (j q : ℕ) → times
 unfolding times count
 times-cons k i p tr j q = refl
 
-times-none : (j q : ℕ) → times [] j q ≡ 0
+pub times-none : (j q : ℕ) → times [] j q ≡ 0
 unfolding times count
 times-none j q = refl
 
@@ -88,11 +88,11 @@ lookup-times s v k i p j q hi hp hj =
       rw (z, ne-eqb j i (λ (e : j ≡ i). apart (sym e))) (omega arith)))
 
 -- ---- how many accesses of each kind
-made-none : (k : Kind) → made k [] ≡ 0
+pub made-none : (k : Kind) → made k [] ≡ 0
 unfolding made count
 made-none k = refl
 
-made-one : (k a : Kind) (i p : ℕ) → made k (access a i p ∷ []) ≡ once (sameKind a k)
+pub made-one : (k a : Kind) (i p : ℕ) → made k (access a i p ∷ []) ≡ once (sameKind a k)
 unfolding made count
 made-one k a i p = omega arith
 

@@ -87,6 +87,6 @@ passing-some t n e l y =
     (passing-wider (eqb e) t n (λ d _ same. let x : e ≡ d = eqb-true e d same in rw x at y))
 
 pub some-passing : (t : ℕ → Bool) (n : ℕ) → 1 ≤ passing t n → someBelow t n ≡ true
-some-passing t n h = 
+some-passing t n h =
     by-cases (someBelow t n) (λ y. y)
     (λ z. absurd (omega (arith, passing-none t n (λ d l. some-not t n d z l))))

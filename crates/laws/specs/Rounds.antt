@@ -1,4 +1,6 @@
 -- The rounds of BPA2 over a valid pose set.
+--     none-met                   no access, no item met
+--     by-turn                    a turn at a list by its two cases
 --     by-turn                    a turn passes the list over, or looks up the item after its best position
 --     Turns                      lookups by direct accesses, one for each item met, and no item looked up twice
 --     turn-next, round-turns, rounds-turns   a turn at a list keeps this; so it holds in the middle of a round and after any number
@@ -10,30 +12,30 @@
 --     rounds-length              r rounds are at most r * (m * m) accesses
 -- Assumes nothing.
 use mathlib.Core.Path.{_≡_, refl, sym, ap, _∙_}
-use mathlib.Core.Bool.{Bool, true, false, cond, _||_, true≢false}
+use mathlib.Core.Bool.{true, false}
 use mathlib.Core.Logic.{_≢_}
-use mathlib.Core.List.{List, [], _∷_, _++_}
+use mathlib.Core.List.{List, [], _++_}
 use Prim.Native.Nat.{ℕ, zero, suc, _+_, _*_, _≤_, _<_}
-use native.Mathlib.Nat.{zero-mul, suc-mul, not-suc-le-zero}
+use native.Mathlib.Nat.{suc-mul, not-suc-le-zero}
 use native.Mathlib.Omega.{arith}
 use lib.Dec.{eqb, leb, ltb}
 use lib.ListN.{length, length-append}
-use borrow.Author.Tests.{eqb-true, eqb-false, eq-eqb, ne-eqb, ltb-true, ltb-false, lt-ltb, le-ltb, lt-leb}
-use Rattle.model.specs.Words.{count}
+use borrow.Author.Tests.{eqb-true, eqb-false, eq-eqb, ltb-true, ltb-false, lt-leb}
 use Rattle.model.specs.Given.{Poses, item, place}
 use Rattle.model.specs.Accesses.{Access, direct, lookup, next, round, rounds, times, visited, met, best}
 use Rattle.laws.specs.Tests.{by-cases, below-suc, some-none}
 use Rattle.laws.specs.Accepted.{Valid}
-use Rattle.laws.specs.Lookups.{once, times-append, lookup-times}
+use Rattle.laws.specs.Lookups.{times-append, lookup-times, times-none}
 use Rattle.laws.specs.Meetings.{Whole, met-is, met-more, lookup-at}
 use Rattle.laws.specs.Passing.{passing, passing-none, passing-more}
-use Rattle.laws.specs.Visits.{times-none, Covers, least-visited, unvisited, visited-more, best-most, best-visited, best-free, best-reaches}
+use Rattle.laws.specs.Visits.{Covers, least-visited, unvisited, visited-more, best-most, best-visited, best-free, best-reaches}
 use Rattle.laws.specs.Looked.{Looked, looked-none, looked-more, looked-whole, lookup-length}
 
 none-met : (s : Poses) (d : ℕ) → met s [] d ≡ false
 unfolding met visited
 none-met s d =
-    some-none (λ i. leb 1 (times [] i (place s i d))) (s .m) (λ i _. lt-leb 1 (times [] i (place s i d)) (omega (arith, times-none i (place s i d))))
+    some-none (λ i. leb 1 (times [] i (place s i d))) (s .m)
+    (λ i _. let none = times-none i (place s i d) in lt-leb 1 (times [] i (place s i d)) (omega arith))
 
 -- a turn passes the list over, or looks up the item after its best position
 pub by-turn : (X : List Access → Type 0) (s : Poses) (tr : List Access) (i : ℕ) → (best s tr i ≡ s .n → X tr)
@@ -70,20 +72,22 @@ module _ (s : Poses) (v : Valid s) where
       let d = item s i p in
       let w = looked-whole s v (t .looked) in
       let new : times tr 0 (place s 0 d) ≡ 0 = unvisited-item tr i p hi hp w (best-free s tr i hp) in
-      let unmet : met s tr d ≡ false = met-is s v w d (v .is-item i p hi hp) ∙ lt-leb 1 (times tr 0 (place s 0 d)) (omega arith) in
+      let unmet : met s tr d ≡ false =
+      met-is s v w d (v .is-item i p hi hp) ∙ lt-leb 1 (times tr 0 (place s 0 d)) (omega arith) in
       let more : passing (met s (tr ++ lookup s direct i p)) (s .n) ≡ suc (passing (met s tr) (s .n)) =
       passing-more (met s tr) (met s (tr ++ lookup s direct i p)) (s .n) d (v .is-item i p hi hp) unmet
       (λ e he. met-more s v w direct i p e hi hp he) in
       record {
         looked = rw more (looked-more i p hi hp (t .looked));
         once-each = λ e he.
-            rw (times-append tr (lookup s direct i p) 0 (place s 0 e), lookup-at s v direct i p 0 e hi hp (v .size .m-least) he)
+            rw (times-append tr (lookup s direct i p) 0 (place s 0 e))
+            (rw (lookup-at s v direct i p 0 e hi hp (v .size .m-least) he)
             (by-cases (eqb d e)
             (λ (y : eqb d e ≡ true).
             let same : d ≡ e = eqb-true d e y in
             let none : times tr 0 (place s 0 e) ≡ 0 = rw same at new in
             rw (y, none) (omega arith))
-            (λ (z : eqb d e ≡ false). rw z (omega (arith, t .once-each e he))));
+            (λ (z : eqb d e ≡ false). rw z (omega (arith, t .once-each e he)))));
       }
 
   pub turn-next : (tr : List Access) (i : ℕ) → i < s .m → Turns tr → Turns (next s tr i)
@@ -99,7 +103,7 @@ module _ (s : Poses) (v : Valid s) where
   rounds-turns zero = turns-none
   rounds-turns (suc r) = round-turns (rounds s r) (s .m) (omega arith) (rounds-turns r)
 
-  -- "no position twice"
+  -- no position is visited twice
   pub rounds-once : (r i p : ℕ) → i < s .m → p < s .n → times (rounds s r) i p ≤ 1
   rounds-once r i p hi hp =
       let t = rounds-turns r in
@@ -124,7 +128,8 @@ module _ (s : Poses) where
 
 module _ (s : Poses) (v : Valid s) where
   -- after a turn at list i the position after its best one is visited too
-  pub next-visits : (tr : List Access) (i q : ℕ) → i < s .m → q < s .n → q ≤ best s tr i → visited (next s tr i) i q ≡ true
+  pub next-visits : (tr : List Access) (i q : ℕ) → i < s .m → q < s .n → q ≤ best s tr i
+      → visited (next s tr i) i q ≡ true
   next-visits tr i q hi hq l =
       by-turn (λ more. visited more i q ≡ true) s tr i
       (λ e. best-visited s tr i q (omega arith))
@@ -139,7 +144,8 @@ module _ (s : Poses) (v : Valid s) where
       let seen : 1 ≤ times (tr ++ lookup s direct i p) i p = omega (arith, times-append tr (lookup s direct i p) i p) in
       rw here (least-visited (tr ++ lookup s direct i p) i p seen)))
 
-  round-covers : (tr : List Access) (r i : ℕ) → r < s .n → i ≤ s .m → Covers s tr r → (j q : ℕ) → j < i → q < suc r → visited (round s tr i) j q ≡ true
+  round-covers : (tr : List Access) (r i : ℕ) → r < s .n → i ≤ s .m → Covers s tr r → (j q : ℕ) → j < i → q < suc r
+      → visited (round s tr i) j q ≡ true
   unfolding round
   round-covers tr r zero hr hi c j q hj hq = absurd (not-suc-le-zero hj)
   round-covers tr r (suc i) hr hi c j q hj hq =
@@ -152,8 +158,8 @@ module _ (s : Poses) (v : Valid s) where
 
   pub rounds-covers : (r : ℕ) → r ≤ s .n → Covers s (rounds s r) r
   unfolding rounds
-  rounds-covers zero hr i q hi hq = absurd (not-suc-le-zero hq)
-  rounds-covers (suc r) hr i q hi hq = round-covers (rounds s r) r (s .m) hr (omega arith) (rounds-covers r (omega arith)) i q hi hq
+  rounds-covers zero hr = λ i q hi hq. absurd (not-suc-le-zero hq)
+  rounds-covers (suc r) hr = round-covers (rounds s r) r (s .m) hr (omega arith) (rounds-covers r (omega arith))
 
   -- ---- how many accesses
   round-length : (tr : List Access) (i : ℕ) → i ≤ s .m → length (round s tr i) ≤ length tr + i * s .m
@@ -165,9 +171,12 @@ module _ (s : Poses) (v : Valid s) where
       (λ _. rw (suc-mul i (s .m)) (omega arith))
       (λ _.
       let p = best s (round s tr i) i in
-      rw (suc-mul i (s .m), length-append (round s tr i) (lookup s direct i p), lookup-length s v direct i p refl hi) (omega arith))
+      rw (suc-mul i (s .m), length-append (round s tr i) (lookup s direct i p))
+      (omega (arith, lookup-length s v direct i p refl hi)))
 
   pub rounds-length : (r : ℕ) → length (rounds s r) ≤ r * (s .m * s .m)
   unfolding rounds
   rounds-length zero = omega arith
-  rounds-length (suc r) = rw (suc-mul r (s .m * s .m)) (omega (arith, round-length (rounds s r) (s .m) (omega arith), rounds-length r))
+  rounds-length (suc r) =
+      let last = round-length (rounds s r) (s .m) (omega arith) in
+      rw (suc-mul r (s .m * s .m)) (omega (arith, rounds-length r))

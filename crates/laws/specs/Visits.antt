@@ -1,30 +1,25 @@
 -- What a list of accesses has visited: best positions, and the first p positions of every list.
---     times-none                 no access, no visit
 --     visited-least, least-visited, unvisited    visited is visited once or more
 --     visited-more               what was visited stays visited
 --     best-most                  a best position is at most n
 --     best-visited, best-free    all positions up to it are visited; the next one is not
---     best-reaches, best-wider   it is at least p where the first p are visited; more visits make no best position smaller
+--     best-reaches, best-wider   it is p or more where the first p are visited; with more visits it is no smaller
 --     Covers                     the first p positions of every list are visited
---     covers-met                 an item that stands among them is met
---     unmet-below                an unmet item stands below every best position
+--     visited-met                an item is met where one of its places is visited
+--     unmet-unvisited, unmet-below       an unmet item's places are not, and lie below whatever is visited from the top
 -- Assumes nothing.
-use mathlib.Core.Path.{_≡_, refl, sym, ap, _∙_}
-use mathlib.Core.Bool.{Bool, true, false, not, true≢false}
-use mathlib.Core.List.{List, [], _++_}
-use Prim.Native.Nat.{ℕ, zero, suc, _+_, _≤_, _<_}
+use mathlib.Core.Path.{_≡_, sym, _∙_}
+use mathlib.Core.Bool.{true, false, not, true≢false}
+use mathlib.Core.List.{List, _++_}
+use Prim.Native.Nat.{ℕ, _≤_, _<_}
 use native.Mathlib.Omega.{arith}
-use lib.Dec.{leb, ltb}
+use lib.Dec.{ltb}
 use borrow.Author.Tests.{leb-true, leb-false, le-leb, ltb-true, ltb-false, not-true, not-false}
-use Rattle.model.specs.Words.{first, someBelow, count}
+use Rattle.model.specs.Words.{first}
 use Rattle.model.specs.Given.{Poses, place}
 use Rattle.model.specs.Accesses.{Access, times, visited, met, best}
 use Rattle.laws.specs.Tests.{by-cases, some-hit, some-not, first-most, first-passes, first-skips}
 use Rattle.laws.specs.Lookups.{times-append}
-
-pub times-none : (i p : ℕ) → times [] i p ≡ 0
-unfolding times count
-times-none i p = refl
 
 -- visited is visited at least once
 pub visited-least : (tr : List Access) (i p : ℕ) → visited tr i p ≡ true → 1 ≤ times tr i p
@@ -60,7 +55,8 @@ module _ (s : Poses) where
       let at = first (λ p. not (visited tr i p)) (s .n) 0 in
       not-true (visited tr i at) (first-passes (λ p. not (visited tr i p)) (s .n) 0 (omega arith))
 
-  pub best-reaches : (tr : List Access) (i p : ℕ) → p ≤ s .n → ((q : ℕ) → q < p → visited tr i q ≡ true) → p ≤ best s tr i
+  pub best-reaches : (tr : List Access) (i p : ℕ) → p ≤ s .n → ((q : ℕ) → q < p → visited tr i q ≡ true)
+      → p ≤ best s tr i
   best-reaches tr i p l h =
       by-cases (ltb (best s tr i) p)
       (λ y.
@@ -68,7 +64,8 @@ module _ (s : Poses) where
       absurd (true≢false (sym (h (best s tr i) short) ∙ best-free tr i (omega arith))))
       (λ z. ltb-false (best s tr i) p z)
 
-  pub best-wider : (tr more : List Access) (i : ℕ) → ((q : ℕ) → q < s .n → visited tr i q ≡ true → visited more i q ≡ true) → best s tr i ≤ best s more i
+  pub best-wider : (tr more : List Access) (i : ℕ)
+      → ((q : ℕ) → q < s .n → visited tr i q ≡ true → visited more i q ≡ true) → best s tr i ≤ best s more i
   best-wider tr more i h =
       let most = best-most tr i in
       best-reaches more i (best s tr i) most (λ q l. h q (omega arith) (best-visited tr i q l))
@@ -82,12 +79,14 @@ module _ (s : Poses) where
   unfolding met
   visited-met tr i d hi y = some-hit (λ j. visited tr j (place s j d)) (s .m) i hi y
 
-  pub unmet-unvisited : (tr : List Access) (i d : ℕ) → i < s .m → met s tr d ≡ false → visited tr i (place s i d) ≡ false
+  pub unmet-unvisited : (tr : List Access) (i d : ℕ) → i < s .m → met s tr d ≡ false
+      → visited tr i (place s i d) ≡ false
   unfolding met
   unmet-unvisited tr i d hi z = some-not (λ j. visited tr j (place s j d)) (s .m) i z hi
 
   -- where all positions before b of list i are visited, an unmet item stands at b or after it
-  pub unmet-below : (tr : List Access) (i b d : ℕ) → i < s .m → ((q : ℕ) → q < b → visited tr i q ≡ true) → met s tr d ≡ false → b ≤ place s i d
+  pub unmet-below : (tr : List Access) (i b d : ℕ) → i < s .m → ((q : ℕ) → q < b → visited tr i q ≡ true)
+      → met s tr d ≡ false → b ≤ place s i d
   unmet-below tr i b d hi h z =
       by-cases (ltb (place s i d) b)
       (λ y. absurd (true≢false (sym (h (place s i d) (ltb-true (place s i d) b y)) ∙ unmet-unvisited tr i d hi z)))
