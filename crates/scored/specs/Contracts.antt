@@ -5,6 +5,8 @@
 --     Keeps, Listing, Inserted       what an insertion asks; items in their order in both slices; what it promises
 --     Visitable, visitedOnce         what the visit of an item in every list asks; the tally afterwards
 --     Walkable, walkedTo             what a walk to a list's best position asks; where it ends
+--     Advancing, Advanced            the same for every list
+--     Limited, limitAt               what a threshold asks; the joined scores at a position of each list
 -- Assumes nothing.
 use mathlib.Core.Path.{_≡_}
 use mathlib.Core.Bool.{Bool, true, false, cond, _&&_, _||_}
@@ -13,9 +15,11 @@ use Prim.Native.Nat.{ℕ, suc, _+_, _-_, _*_, _≤_, _<_}
 use lib.Dec.{leb, ltb, eqb}
 use lib.ListN.{length, getD, take}
 use Rattle.model.specs.Words.{first, row, table, over}
+use Rattle.model.specs.Given.{joined}
 use Rattle.model.specs.Searches.{ahead, insert, among}
 use Rattle.laws.specs.Ranking.{Sorted}
 use Rattle.laws.specs.Lookups.{once}
+use Rattle.meeting.specs.Contracts.{Small}
 
 -- item d of score x stands before item e of score y: by score falling, then item rising
 unfoldable pub aheadOf : ℕ → ℕ → ℕ → ℕ → Bool
@@ -82,3 +86,24 @@ pub record Walkable (i m n b : ℕ) (tally : List ℕ) : Type 0 where
 -- the first position of list i that was not visited
 unfoldable pub walkedTo : ℕ → ℕ → List ℕ → ℕ
 walkedTo i n tally = first (λ p. eqb (getD tally (i * n + p) 0) 0) n 0
+
+-- Each list lies within the tally, and its positions before the one that stands for it were visited
+pub record Advancing (m n : ℕ) (reach tally : List ℕ) : Type 0 where
+  pub m-most : m ≤ 8
+  pub walkable : (i : ℕ) → i < m → Walkable i m n (getD reach i 0) tally
+
+-- for each list, the first position that was not visited
+pub record Advanced (m n : ℕ) (tally reach : List ℕ) : Type 0 where
+  pub walked : (i : ℕ) → i < m → getD reach i 0 ≡ walkedTo i n tally
+
+-- A position, from one, stands for each of m lists that lie within the scores
+pub record Limited (m n : ℕ) (at weights scores : List ℕ) : Type 0 where
+  pub m-most : m ≤ 8
+  pub scores-long : m * n ≤ length scores
+  pub at-least : (i : ℕ) → i < m → 1 ≤ getD at i 0
+  pub at-most : (i : ℕ) → i < m → getD at i 0 ≤ n
+  pub small : Small weights scores
+
+-- the scores at a position of each list, counted from one, joined by the rule
+unfoldable pub limitAt : ℕ → List ℕ → ℕ → ℕ → List ℕ → List ℕ → ℕ
+limitAt rule weights m n at scores = joined rule (λ i. getD scores (i * n + (getD at i 0 - 1)) 0 * getD weights i 0) m

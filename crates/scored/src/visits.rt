@@ -1,8 +1,9 @@
 // Visits of positions, kept in the tally, and the best position of a list read off it.
 ghost use mathlib.Core.Path.{_≡_};
 ghost use Prim.Native.Nat.{_+_, _*_, _≤_, _<_};
-ghost use lib.ListN.{length};
-ghost use Rattle.scored.specs.Contracts.{Visitable, visitedOnce, Walkable, walkedTo};
+ghost use mathlib.Core.List.{_++_};
+ghost use lib.ListN.{length, drop, replicate};
+ghost use Rattle.scored.specs.Contracts.{Visitable, visitedOnce, Walkable, walkedTo, Advancing, Advanced};
 
 fn wide(x: u16) -> usize
     ensures { λ r. ⌜ r ≡ x ⌝ }
@@ -43,4 +44,31 @@ pub fn walk_on(i: usize, m: usize, n: usize, from: usize, tally: &[u8]) -> usize
         b += 1;
     }
     b
+}
+
+// No position is visited yet: the first `size` entries are 0.
+pub fn clear(tally: &mut [u8], size: usize)
+    requires { ⌜ size ≤ length (now tally) ⌝ }
+    ensures { λ _. ⌜ now (tally .exit) ≡ replicate size 0 ++ drop size (now (tally .entry)) ⌝ }
+{
+    let mut i = 0;
+    while i < size {
+        tally[i] = 0;
+        i += 1;
+    }
+}
+
+// The best position of each list, walked to from a position up to which all are visited.
+pub fn advance(m: usize, n: usize, best: [usize; 8], tally: &[u8]) -> [usize; 8]
+    requires { ⌜ Advancing m n best (now tally) ⌝ }
+    ensures { λ r. ⌜ Advanced m n (now (tally .entry)) r ⌝ }
+{
+    let mut next = best;
+    let mut i = 0;
+    while i < m {
+        let from = next[i];
+        next[i] = walk_on(i, m, n, from, tally);
+        i += 1;
+    }
+    next
 }
