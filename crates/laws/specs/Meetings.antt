@@ -36,7 +36,7 @@ module _ (s : Poses) (v : Valid s) where
       by-cases (eqb d e)
       (λ (y : eqb d e ≡ true). rw (y, eqb-true d e y) (eq-eqb (place s i e) (place s i e) refl))
       (λ (z : eqb d e ≡ false).
-        rw z (ne-eqb (place s i d) (place s i e) (λ same. eqb-false d e z (same-place i d e hi hd he same))))
+      rw z (ne-eqb (place s i d) (place s i e) (λ same. eqb-false d e z (same-place i d e hi hd he same))))
 
   -- what a lookup adds at an item's place
   pub lookup-at : (k : Kind) (i p j e : ℕ) → i < s .m → p < s .n → j < s .m → e < s .n → times (lookup s k i p) j (place s j e) ≡ once (eqb (item s i p) e)
@@ -55,8 +55,14 @@ module _ (s : Poses) (v : Valid s) where
     whole-more k i p hi hp =
         record {
           alike = λ j d hj hd.
-            rw (times-append tr (lookup s k i p) j (place s j d), times-append tr (lookup s k i p) 0 (place s 0 d),
-              lookup-at k i p j d hi hp hj hd, lookup-at k i p 0 d hi hp list-one hd, w .alike j d hj hd) }
+              rw (
+                times-append tr (lookup s k i p) j (place s j d),
+                times-append tr (lookup s k i p) 0 (place s 0 d),
+                lookup-at k i p j d hi hp hj hd,
+                lookup-at k i p 0 d hi hp list-one hd,
+                w .alike j d hj hd,
+              );
+        }
 
     -- an item is met exactly when list 1 was visited at its place
     pub met-is : (d : ℕ) → d < s .n → met s tr d ≡ leb 1 (times tr 0 (place s 0 d))
@@ -64,11 +70,11 @@ module _ (s : Poses) (v : Valid s) where
     met-is d hd =
         by-cases (leb 1 (times tr 0 (place s 0 d)))
         (λ (y : leb 1 (times tr 0 (place s 0 d)) ≡ true).
-          rw y (some-hit (λ i. leb 1 (times tr i (place s i d))) (s .m) 0 list-one y))
+        rw y (some-hit (λ i. leb 1 (times tr i (place s i d))) (s .m) 0 list-one y))
         (λ (z : leb 1 (times tr 0 (place s 0 d)) ≡ false).
-          rw z
-          (some-none (λ i. leb 1 (times tr i (place s i d))) (s .m)
-          (λ i hi. ap (leb 1) (w .alike i d hi hd) ∙ z)))
+        rw z
+        (some-none (λ i. leb 1 (times tr i (place s i d))) (s .m)
+        (λ i hi. ap (leb 1) (w .alike i d hi hd) ∙ z)))
 
   -- after a lookup the item that it found is met too, and no other
   pub met-more : {tr : List Access} → Whole s tr → (k : Kind) (i p e : ℕ) → i < s .m → p < s .n → e < s .n → met s (tr ++ lookup s k i p) e ≡ (met s tr e || eqb e (item s i p))
@@ -80,6 +86,6 @@ module _ (s : Poses) (v : Valid s) where
       one-more x a b =
           by-cases (eqb a b)
           (λ (y : eqb a b ≡ true).
-            rw (y, eq-eqb b a (sym (eqb-true a b y)), or-true) (le-leb 1 (x + 1) (omega arith)))
+          rw (y, eq-eqb b a (sym (eqb-true a b y)), or-true) (le-leb 1 (x + 1) (omega arith)))
           (λ (z : eqb a b ≡ false).
-            rw (z, ne-eqb b a (λ e. eqb-false a b z (sym e)), or-false, native.Mathlib.Nat.add-zero x) refl)
+          rw (z, ne-eqb b a (λ e. eqb-false a b z (sym e)), or-false, native.Mathlib.Nat.add-zero x) refl)

@@ -31,7 +31,7 @@ use Rattle.laws.specs.Passing.{passing, passing-none, passing-more}
 use Rattle.laws.specs.Visits.{Covers, least-visited, unvisited, visited-more, best-most, best-visited, best-free, best-reaches}
 use Rattle.laws.specs.Looked.{Looked, looked-none, looked-more, looked-whole, lookup-length}
 
-none-met : (s : Poses) (d : ℕ) → met s [] d ≡ false
+pub none-met : (s : Poses) (d : ℕ) → met s [] d ≡ false
 unfolding met visited
 none-met s d =
     some-none (λ i. leb 1 (times [] i (place s i d))) (s .m)

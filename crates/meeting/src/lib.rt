@@ -1,9 +1,27 @@
-// What the searches share: an item's overall score, or a bound on it, under a rule and weights.
+// What the searches share: the three kinds of accesses, and an item's overall score, or a bound on it, under a rule
+// and weights.
 ghost use mathlib.Core.Path.{_≡_};
 ghost use Prim.Native.Nat.{_+_, _*_, _≤_, _<_};
 ghost use lib.ListN.{getD};
 ghost use Rattle.model.specs.Given.{join as joinOf, joined};
 ghost use Rattle.meeting.specs.Contracts.{readAt, unread, Located, Small};
+
+// How many sorted accesses were made.
+pub struct Sorted(pub u32);
+
+// How many direct accesses were made.
+pub struct Direct(pub u32);
+
+// How many random accesses were made.
+pub struct Random(pub u32);
+
+// What a search has done when it stops: its rows or rounds, and its accesses by kind.
+pub struct Done {
+    pub rows: u32,
+    pub sorted: Sorted,
+    pub direct: Direct,
+    pub random: Random,
+}
 
 fn wide(x: u16) -> usize
     ensures { λ r. ⌜ r ≡ x ⌝ }

@@ -28,9 +28,9 @@ ahead-scores f d e =
     by-cases (ltb (f e) (f d))
     (λ (y : ltb (f e) (f d) ≡ true). rw y)
     (λ (z : ltb (f e) (f d) ≡ false).
-      by-cases (eqb (f d) (f e))
-      (λ (y : eqb (f d) (f e) ≡ true). rw (z, y))
-      (λ (w : eqb (f d) (f e) ≡ false). rw (z, w)))
+    by-cases (eqb (f d) (f e))
+    (λ (y : eqb (f d) (f e) ≡ true). rw (z, y))
+    (λ (w : eqb (f d) (f e) ≡ false). rw (z, w)))
 
 module _ {f : ℕ → ℕ} {l picks₀ lows₀ picks lows : List ℕ} {filled d x k : ℕ} (at : Listing f l picks₀ lows₀ filled picks lows) (score : x ≡ f d) (new : among d l ≡ false) (room : Keeps k filled picks lows) where
   -- the item and the score that stand at place j
@@ -68,18 +68,19 @@ module _ {f : ℕ → ℕ} {l picks₀ lows₀ picks lows : List ℕ} {filled d 
       let rk : r < k = omega (arith, t .seat-most, room .filled-most) in
       let open-at : length l < k → last ≡ length l = λ h. some-free (omega (arith, at .filled-is)) ∙ at .filled-is in
       let shut-at : k ≤ length l → (length l ≡ k) × (last + 1 ≡ k) =
-        λ h. (omega (arith, at .filled-is, room .filled-most), none-free (omega (arith, at .filled-is))) in
+      λ h. (omega (arith, at .filled-is, room .filled-most), none-free (omega (arith, at .filled-is))) in
       let open-low : length (map f l) < k → last ≡ length (map f l) = rw (length-map l f) open-at in
       let shut-low : k ≤ length (map f l) → (length (map f l) ≡ k) × (last + 1 ≡ k) = rw (length-map l f) shut-at in
       let filled-then : last + 1 ≡ min k (suc (length l)) =
-        by-cases (ltb (length l) k)
-        (λ y. omega (arith, ltb-true (length l) k y, open-at (ltb-true (length l) k y)))
-        (λ z. omega (arith, shut-at (ltb-false (length l) k z) .0, shut-at (ltb-false (length l) k z) .1)) in
+      by-cases (ltb (length l) k)
+      (λ y. omega (arith, ltb-true (length l) k y, open-at (ltb-true (length l) k y)))
+      (λ z. omega (arith, shut-at (ltb-false (length l) k z) .0, shut-at (ltb-false (length l) k z) .1)) in
       record {
         in-order = in-order-then;
         filled-is = rw (length-take, insert-length (ahead f f) d l) filled-then;
         picks-are = ep ∙ rw (at .picks-are, seat-is t) (slid-inserts l picks₀ k r last d most rk kp open-at shut-at);
         lows-are = el ∙ rw (at .lows-are, seat-is t, score, map-take, map-join, map-take)
-          (slid-inserts (map f l) lows₀ k r last (f d) (rw (length-map l f) most) rk kl open-low shut-low ∙ rw (map-drop f r l));
+            (slid-inserts (map f l) lows₀ k r last (f d) (rw (length-map l f) most) rk kl open-low shut-low ∙ rw (map-drop f r l));
         picks-as-long = ap length ep ∙ slid-length r last d picks ∙ at .picks-as-long;
-        lows-as-long = ap length el ∙ slid-length r last x lows ∙ at .lows-as-long }
+        lows-as-long = ap length el ∙ slid-length r last x lows ∙ at .lows-as-long;
+      }

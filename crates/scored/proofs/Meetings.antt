@@ -47,10 +47,10 @@ module _ (s : Poses) (q : Query) (work : List ℕ) (v : Valid s) (w : Placed s w
   score-is d hd =
       joined-same (q .rule) (λ i. readAt (s .n) (s .scores) work d (s .n) (unread false (s .n) (s .scores) (s .n)) i * q .weight i) (λ i. score s i (place s i d) * q .weight i) (s .m)
       (λ i hi.
-        let at = w .position-at i d hi hd in
-        let inside = v .has-place i d hi hd in
-        let index : i * s .n + (place s i d + 1) - 1 ≡ i * s .n + place s i d = omega arith in
-        rw (at, le-leb (place s i d + 1) (s .n) (omega arith), index))
+      let at = w .position-at i d hi hd in
+      let inside = v .has-place i d hi hd in
+      let index : i * s .n + (place s i d + 1) - 1 ≡ i * s .n + place s i d = omega arith in
+      rw (at, le-leb (place s i d + 1) (s .n) (omega arith), index))
 
   module _ (tr : List Access) (tally₀ : List ℕ) {marks : List ℕ} (is : marks ≡ over (tally s tr) tally₀) where
     mark-at : (i p : ℕ) → i < s .m → p < s .n → getD marks (i * s .n + p) 0 ≡ times tr i p
@@ -65,9 +65,9 @@ module _ (s : Poses) (q : Query) (work : List ℕ) (v : Valid s) (w : Placed s w
     tally-after a i p d hi hp found hd =
         let g : ℕ → ℕ → ℕ = λ j x. getD marks (j * s .n + x) 0 + once (ltb j (s .m) && eqb (getD work (j * s .n + d) 0 - 1) x) in
         let same : table g (s .n) (s .m) ≡ table (times (tr ++ lookup s a i p)) (s .n) (s .m) =
-          table-same g (times (tr ++ lookup s a i p)) (s .n) (s .m)
-          (λ j x hj hx.
-            rw (mark-at j x hj hx, lt-ltb j (s .m) hj, place-back j d hj hd, times-append tr (lookup s a i p) j x, lookup-times s v a i p j x hi hp hj, found)) in
+        table-same g (times (tr ++ lookup s a i p)) (s .n) (s .m)
+        (λ j x hj hx.
+        rw (mark-at j x hj hx, lt-ltb j (s .m) hj, place-back j d hj hd, times-append tr (lookup s a i p) j x, lookup-times s v a i p j x hi hp hj, found)) in
         let long : length (table g (s .n) (s .m)) ≡ length (table (times tr) (s .n) (s .m)) = table-length g (s .n) (s .m) ∙ sym (table-length (times tr) (s .n) (s .m)) in
         ap (over (table g (s .n) (s .m))) is ∙ over-over (table g (s .n) (s .m)) (table (times tr) (s .n) (s .m)) tally₀ long
         ∙ ap (λ (t : List ℕ). over t tally₀) same
@@ -78,7 +78,7 @@ module _ (s : Poses) (q : Query) (work : List ℕ) (v : Valid s) (w : Placed s w
         let index : 0 * s .n + d ≡ d = rw zero-mul (zero-add d) in
         let at : getD work d 0 - 1 ≡ place s 0 d = ap (λ (x : ℕ). getD work x 0 - 1) (sym index) ∙ place-back 0 d one hd in
         let mark : getD marks (place s 0 d) 0 ≡ times tr 0 (place s 0 d) =
-          ap (λ (x : ℕ). getD marks x 0) (sym (rw zero-mul (zero-add (place s 0 d)))) ∙ mark-at 0 (place s 0 d) one (v .has-place 0 d one hd) in
+        ap (λ (x : ℕ). getD marks x 0) (sym (rw zero-mul (zero-add (place s 0 d)))) ∙ mark-at 0 (place s 0 d) one (v .has-place 0 d one hd) in
         met-is s v whole d hd ∙ rw (at, mark)
 
   module _ {tr : List Access} (whole : Whole s tr) (a : Kind) (i p d : ℕ) (hi : i < s .m) (hp : p < s .n) (found : item s i p ≡ d) (hd : d < s .n) where
@@ -90,10 +90,10 @@ module _ (s : Poses) (q : Query) (work : List ℕ) (v : Valid s) (w : Placed s w
     ranking-old old =
         ranked-same (ahead (total s q) (total s q)) (ahead (total s q) (total s q)) (met s (tr ++ lookup s a i p)) (met s tr) (s .n)
         (λ e he.
-          met-then e he
-          ∙ by-cases (eqb e d)
-            (λ (y : eqb e d ≡ true). let x : e ≡ d = eqb-true e d y in rw (y, or-true, x, old))
-            (λ (z : eqb e d ≡ false). rw (z, or-false)))
+        met-then e he
+        ∙ by-cases (eqb e d)
+        (λ (y : eqb e d ≡ true). let x : e ≡ d = eqb-true e d y in rw (y, or-true, x, old))
+        (λ (z : eqb e d ≡ false). rw (z, or-false)))
         (λ x y _ _ _ _. refl)
 
     ranking-new : met s tr d ≡ false → ranking s q (tr ++ lookup s a i p) ≡ insert (ahead (total s q) (total s q)) d (ranking s q tr)
@@ -107,9 +107,9 @@ module _ (s : Poses) (q : Query) (work : List ℕ) (v : Valid s) (w : Placed s w
     not-kept k new =
         by-cases (among d (take k (ranking s q tr)))
         (λ (y : among d (take k (ranking s q tr)) ≡ true).
-          let r = take-among d k (ranking s q tr) y in
-          let in-it : among d (ranking s q tr) ≡ true = rw (r .3) at (among-at (ranking s q tr) (r .0) (r .2)) in
-          absurd (true≢false (sym in-it ∙ ranked-among (ahead (total s q) (total s q)) (met s tr) d (s .n) ∙ rw (lt-ltb d (s .n) hd, new))))
+        let r = take-among d k (ranking s q tr) y in
+        let in-it : among d (ranking s q tr) ≡ true = rw (r .3) at (among-at (ranking s q tr) (r .0) (r .2)) in
+        absurd (true≢false (sym in-it ∙ ranked-among (ahead (total s q) (total s q)) (met s tr) d (s .n) ∙ rw (lt-ltb d (s .n) hd, new))))
         (λ z. z)
 
     module _ {k filled : ℕ} {picks₀ lows₀ tally₀ picks lows marks marks′ : List ℕ} (at : State s q k tr picks₀ lows₀ tally₀ filled picks lows marks) (visits : marks′ ≡ visitedOnce d (s .m) (s .n) work marks) (long : length marks′ ≡ length marks) where
@@ -118,11 +118,13 @@ module _ (s : Poses) (q : Query) (work : List ℕ) (v : Valid s) (w : Placed s w
           record {
             shortlist = rw (ranking-old old) (at .shortlist);
             tally-is = visits ∙ tally-after tr tally₀ (at .tally-is) a i p d hi hp found hd;
-            tally-as-long = long ∙ at .tally-as-long }
+            tally-as-long = long ∙ at .tally-as-long;
+          }
 
       pub meets-new : {filled′ : ℕ} {picks′ lows′ : List ℕ} → met s tr d ≡ false → Listing (total s q) (take k (insert (ahead (total s q) (total s q)) d (take k (ranking s q tr)))) picks₀ lows₀ filled′ picks′ lows′ → State s q k (tr ++ lookup s a i p) picks₀ lows₀ tally₀ filled′ picks′ lows′ marks′
       meets-new new inserted =
           record {
             shortlist = rw (ranking-new new, take-insert (ahead (total s q) (total s q)) k d (ranking s q tr)) inserted;
             tally-is = visits ∙ tally-after tr tally₀ (at .tally-is) a i p d hi hp found hd;
-            tally-as-long = long ∙ at .tally-as-long }
+            tally-as-long = long ∙ at .tally-as-long;
+          }

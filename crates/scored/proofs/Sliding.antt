@@ -54,10 +54,11 @@ moving-starts l seat last h =
       below-last = omega arith;
       as-long = refl;
       entry = λ i.
-        by-entry last last i
-        (λ (a : i ≤ last). sym (moved-not last last l i a))
-        (λ (a : last < i) (b : i ≤ last). absurd (omega arith))
-        (λ (a : last < i). sym (moved-past last last l i a (omega arith))) }
+          by-entry last last i
+          (λ (a : i ≤ last). sym (moved-not last last l i a))
+          (λ (a : last < i) (b : i ≤ last). absurd (omega arith))
+          (λ (a : last < i). sym (moved-past last last l i a (omega arith)));
+    }
 
 pub moving-goes-on : {l list : List ℕ} {seat j last : ℕ} → Moving l list seat j last → seat < j → j < length l → Moving l (set list j (getD list (j - 1) 0)) seat (j - 1) last
 moving-goes-on {l} {list} {seat} {j} {last} w h inside =
@@ -66,20 +67,21 @@ moving-goes-on {l} {list} {seat} {j} {last} w h inside =
       below-last = omega (arith, w .below-last);
       as-long = length-set list j (getD list (j - 1) 0) ∙ w .as-long;
       entry = λ i.
-        by-cases (eqb i j)
-        (λ (y : eqb i j ≡ true).
+          by-cases (eqb i j)
+          (λ (y : eqb i j ≡ true).
           let e : i ≡ j = eqb-true i j y in
           rw e
           (getD-set-same list j (getD list (j - 1) 0) 0 (omega (arith, w .as-long))
           ∙ w .entry (j - 1) ∙ moved-not j last l (j - 1) (omega arith)
           ∙ sym (moved-here (j - 1) last l j (omega arith) (w .below-last))))
-        (λ (z : eqb i j ≡ false).
+          (λ (z : eqb i j ≡ false).
           let apart : i ≢ j = eqb-false i j z in
           getD-set-other list j i (getD list (j - 1) 0) 0 apart ∙ w .entry i
           ∙ by-entry j last i
-            (λ (a : i ≤ j). moved-not j last l i a ∙ sym (moved-not (j - 1) last l i (omega arith)))
-            (λ (a : j < i) (b : i ≤ last). moved-here j last l i a b ∙ sym (moved-here (j - 1) last l i (omega arith) b))
-            (λ (a : last < i). moved-past j last l i a (w .below-last) ∙ sym (moved-past (j - 1) last l i a (omega (arith, w .below-last))))) }
+          (λ (a : i ≤ j). moved-not j last l i a ∙ sym (moved-not (j - 1) last l i (omega arith)))
+          (λ (a : j < i) (b : i ≤ last). moved-here j last l i a b ∙ sym (moved-here (j - 1) last l i (omega arith) b))
+          (λ (a : last < i). moved-past j last l i a (w .below-last) ∙ sym (moved-past (j - 1) last l i a (omega (arith, w .below-last)))));
+    }
 
 pub moving-ends : {l list : List ℕ} {seat last : ℕ} (v : ℕ) → Moving l list seat seat last → seat < length l → set list seat v ≡ slid seat last v l
 unfolding slid
@@ -88,13 +90,13 @@ moving-ends {l} {list} {seat} {last} v w inside =
     ext-getD 0 (set list seat v) (row f (length l))
     (length-set list seat v ∙ w .as-long ∙ sym (row-length f (length l)))
     (λ i hi.
-      let hi′ : i < length l = omega (arith, length-set list seat v, w .as-long) in
-      by-cases (eqb seat i)
-      (λ (y : eqb seat i ≡ true).
-        let e : seat ≡ i = eqb-true seat i y in
-        rw (row-at f (length l) i 0 hi′, y, ← e) (getD-set-same list seat v 0 (omega (arith, w .as-long))))
-      (λ (z : eqb seat i ≡ false).
-        rw (row-at f (length l) i 0 hi′, z) (getD-set-other list seat i v 0 (λ e. eqb-false seat i z (sym e)) ∙ w .entry i)))
+    let hi′ : i < length l = omega (arith, length-set list seat v, w .as-long) in
+    by-cases (eqb seat i)
+    (λ (y : eqb seat i ≡ true).
+    let e : seat ≡ i = eqb-true seat i y in
+    rw (row-at f (length l) i 0 hi′, y, ← e) (getD-set-same list seat v 0 (omega (arith, w .as-long))))
+    (λ (z : eqb seat i ≡ false).
+    rw (row-at f (length l) i 0 hi′, z) (getD-set-other list seat i v 0 (λ e. eqb-false seat i z (sym e)) ∙ w .entry i)))
 
 pub slid-length : (seat last v : ℕ) (l : List ℕ) → length (slid seat last v l) ≡ length l
 unfolding slid
@@ -142,37 +144,39 @@ module _ (l lent : List ℕ) (k j last v : ℕ) (hj : j ≤ length l) (jk : j < 
   last-place =
       by-cases (ltb (length l) k)
       (λ (y : ltb (length l) k ≡ true).
-        let e = some-free (ltb-true (length l) k y) in
-        let lt = ltb-true (length l) k y in
-        record {
-          within-k = omega arith;
-          within-l = omega arith;
-          past-seat-or-at = omega arith;
-          whole = omega arith;
-          size = rw (length-take, seated-length l j v hj) (omega arith) })
+      let e = some-free (ltb-true (length l) k y) in
+      let lt = ltb-true (length l) k y in
+      record {
+        within-k = omega arith;
+        within-l = omega arith;
+        past-seat-or-at = omega arith;
+        whole = omega arith;
+        size = rw (length-take, seated-length l j v hj) (omega arith);
+      })
       (λ (z : ltb (length l) k ≡ false).
-        let e = none-free (ltb-false (length l) k z) in
-        record {
-          within-k = omega (arith, e .1);
-          within-l = omega (arith, e .0, e .1);
-          past-seat-or-at = omega (arith, e .1);
-          whole = omega (arith, e .0, e .1);
-          size = rw (length-take, seated-length l j v hj) (omega (arith, e .0, e .1)) })
+      let e = none-free (ltb-false (length l) k z) in
+      record {
+        within-k = omega (arith, e .1);
+        within-l = omega (arith, e .0, e .1);
+        past-seat-or-at = omega (arith, e .1);
+        whole = omega (arith, e .0, e .1);
+        size = rw (length-take, seated-length l j v hj) (omega (arith, e .0, e .1));
+      })
 
   inside : (i : ℕ) → i ≤ last → cond (eqb j i) v (movedOn j last (over l lent) i) ≡ getD (take j l ++ v ∷ drop j l) i 0
   inside i h =
       by-cases (eqb j i)
       (λ (y : eqb j i ≡ true). let e : j ≡ i = eqb-true j i y in rw (y, ← e) (sym (at-seat l j v hj)))
       (λ (z : eqb j i ≡ false).
-        rw z
-        (by-cases (ltb i j)
-        (λ (y : ltb i j ≡ true).
-          let lt : i < j = ltb-true i j y in
-          moved-not j last (over l lent) i (omega arith) ∙ over-at l lent i 0 (omega arith) ∙ sym (before-seat l j v hj i lt))
-        (λ (w : ltb i j ≡ false).
-          let lt : j < i = omega (arith, ltb-false i j w, eqb-false j i z) in
-          moved-here j last (over l lent) i lt h ∙ over-at l lent (i - 1) 0 (omega (arith, last-place .within-l))
-          ∙ sym (past-seat l j v hj i lt))))
+      rw z
+      (by-cases (ltb i j)
+      (λ (y : ltb i j ≡ true).
+      let lt : i < j = ltb-true i j y in
+      moved-not j last (over l lent) i (omega arith) ∙ over-at l lent i 0 (omega arith) ∙ sym (before-seat l j v hj i lt))
+      (λ (w : ltb i j ≡ false).
+      let lt : j < i = omega (arith, ltb-false i j w, eqb-false j i z) in
+      moved-here j last (over l lent) i lt h ∙ over-at l lent (i - 1) 0 (omega (arith, last-place .within-l))
+      ∙ sym (past-seat l j v hj i lt))))
 
   beyond : (i : ℕ) → last < i → cond (eqb j i) v (movedOn j last (over l lent) i) ≡ getD lent i 0
   beyond i h =
@@ -190,11 +194,11 @@ module _ (l lent : List ℕ) (k j last v : ℕ) (hj : j ≤ length l) (jk : j < 
       let long′ : length (over t lent) ≡ length lent = over-length t lent (omega (arith, known .size, known .within-k)) in
       ext-getD 0 (row f (length (over l lent))) (over t lent) (row-length f (length (over l lent)) ∙ long ∙ sym long′)
       (λ i hi.
-        row-at f (length (over l lent)) i 0 (omega (arith, row-length f (length (over l lent))))
-        ∙ by-cases (leb i last)
-          (λ (y : leb i last ≡ true).
-            let le : i ≤ last = leb-true i last y in
-            inside i le ∙ sym (over-at t lent i 0 (omega (arith, known .size)) ∙ getD-take k (take j l ++ v ∷ drop j l) i 0 (omega (arith, known .within-k))))
-          (λ (z : leb i last ≡ false).
-            let lt : last < i = leb-false i last z in
-            beyond i lt ∙ sym (over-past t lent i (omega (arith, known .size)))))
+      row-at f (length (over l lent)) i 0 (omega (arith, row-length f (length (over l lent))))
+      ∙ by-cases (leb i last)
+      (λ (y : leb i last ≡ true).
+      let le : i ≤ last = leb-true i last y in
+      inside i le ∙ sym (over-at t lent i 0 (omega (arith, known .size)) ∙ getD-take k (take j l ++ v ∷ drop j l) i 0 (omega (arith, known .within-k))))
+      (λ (z : leb i last ≡ false).
+      let lt : last < i = leb-false i last z in
+      beyond i lt ∙ sym (over-past t lent i (omega (arith, known .size)))))

@@ -51,7 +51,8 @@ module _ (m n rule : ℕ) (weights items scores work : List ℕ) (r : Readable (
         scores-long = v .scores-long;
         work-long = w .places-long;
         place-least = λ i hi. omega (arith, w .position-at i d hi hd);
-        place-most = λ i hi. omega (arith, w .position-at i d hi hd, v .has-place i d hi hd) }
+        place-most = λ i hi. omega (arith, w .position-at i d hi hd, v .has-place i d hi hd);
+      }
 
   pub small-of : Small weights scores
   small-of = record { weights-small = r .weights-small; scores-small = r .scores-small }
@@ -63,7 +64,8 @@ module _ (m n rule : ℕ) (weights items scores work : List ℕ) (r : Readable (
         k-least = keeps .k-least;
         filled-most = omega (arith, l .filled-is, length-take k (ranking (poses m n items scores) q tr));
         picks-long = omega (arith, keeps .picks-long, l .picks-as-long);
-        lows-long = omega (arith, keeps .lows-long, l .lows-as-long) }
+        lows-long = omega (arith, keeps .lows-long, l .lows-as-long);
+      }
 
   -- what the tally slice holds at a position
   pub mark-at : {q : Query} {k filled : ℕ} {tr : List Access} {picks₀ lows₀ tally₀ picks lows marks : List ℕ} → State (poses m n items scores) q k tr picks₀ lows₀ tally₀ filled picks lows marks → (i p : ℕ) → i < m → p < n → getD marks (i * n + p) 0 ≡ times tr i p
@@ -85,8 +87,9 @@ module _ (m n rule : ℕ) (weights items scores work : List ℕ) (r : Readable (
         place-least = places .place-least;
         place-most = places .place-most;
         count-small = λ i hi.
-          let back : getD work (i * n + d) 0 - 1 ≡ place (poses m n items scores) i d = omega (arith, w .position-at i d hi hd) in
-          rw (back, mark-at at i (place (poses m n items scores) i d) hi (v .has-place i d hi hd)) (few i hi) }
+            let back : getD work (i * n + d) 0 - 1 ≡ place (poses m n items scores) i d = omega (arith, w .position-at i d hi hd) in
+            rw (back, mark-at at i (place (poses m n items scores) i d) hi (v .has-place i d hi hd)) (few i hi);
+      }
 
   pub meeting-of : {k filled₀ filled : ℕ} {tr : List Access} {picks₀ lows₀ tally₀ picks lows marks : List ℕ} → Keeps k filled₀ picks₀ lows₀ → m * n ≤ length tally₀ → State (poses m n items scores) (queryWith rule weights) k tr picks₀ lows₀ tally₀ filled picks lows marks → (d : ℕ) → d < n → ((i : ℕ) → i < m → times tr i (place (poses m n items scores) i d) ≤ 8) → Meeting d m n k filled weights scores picks lows marks work
   meeting-of keeps long at d hd few =
@@ -95,7 +98,8 @@ module _ (m n rule : ℕ) (weights items scores work : List ℕ) (r : Readable (
         located = located-of d hd;
         small = small-of;
         visitable = visitable-of at long d hd few;
-        keeps = keeps-now keeps at }
+        keeps = keeps-now keeps at;
+      }
 
 -- in the middle of a row: no item's places were visited more than m times
 pub row-count : (s : Poses) → Valid s → (p i j d : ℕ) → p < s .n → i ≤ s .m → j < s .m → d < s .n → times (rowsTA s p ++ rowTA s p i) j (place s j d) ≤ 8

@@ -47,7 +47,7 @@ module _ (s : Poses) (tr : List Access) (i : ℕ) where
       by-turn (λ more. made direct more ≡ made direct tr + once (ltb (best s tr i) (s .n))) s tr i
       (λ e. rw (le-ltb (best s tr i) (s .n) (omega arith)) (omega arith))
       (λ h.
-        rw (made-append direct tr (lookup s direct i (best s tr i)), lookup-made-own s direct i (best s tr i) refl refl, lt-ltb (best s tr i) (s .n) h))
+      rw (made-append direct tr (lookup s direct i (best s tr i)), lookup-made-own s direct i (best s tr i) refl refl, lt-ltb (best s tr i) (s .n) h))
 
   pub best-grows : (j : ℕ) → best s tr j ≤ best s (next s tr i) j
   best-grows j = best-wider s tr (next s tr i) j (λ q hq y. visited-next s tr i j q y)
@@ -74,8 +74,9 @@ module _ (m n rule : ℕ) (weights items scores work : List ℕ) (r : Readable (
         from-within = omega arith;
         tally-long = omega (arith, at .tally-as-long);
         visited-before = λ p hp e.
-          let seen = visited-least tr i p (best-visited (poses m n items scores) tr i p (omega arith)) in
-          omega (arith, mark-at m n rule weights items scores work r at i p hi (omega arith)) }
+            let seen = visited-least tr i p (best-visited (poses m n items scores) tr i p (omega arith)) in
+            omega (arith, mark-at m n rule weights items scores work r at i p hi (omega arith));
+      }
 
 -- ---- a round, list by list
 -- After the turns at the first i lists of a round: where the slices stand, how far each list was visited, the direct accesses made
@@ -114,10 +115,11 @@ module _ {s : Poses} {q : Query} {k r i filled kept : ℕ} {picks₀ lows₀ mar
       (record {
         goes = goes-on (p .goes) turn;
         reached = λ j hj.
-          by-cases (eqb j i)
-          (λ (y : eqb j i ≡ true).
+            by-cases (eqb j i)
+            (λ (y : eqb j i ≡ true).
             let x : j ≡ i = eqb-true j i y in
             rw (x, getD-set-same reach i b 0 inside) (omega (arith, best-grows s tr i i)))
-          (λ (z : eqb j i ≡ false).
+            (λ (z : eqb j i ≡ false).
             rw (getD-set-other reach i j b 0 (eqb-false j i z)) (omega (arith, p .reached j hj, best-grows s tr i j)));
-        counted = rw e (omega (arith, p .counted, made-next s tr i)) })
+        counted = rw e (omega (arith, p .counted, made-next s tr i));
+      })

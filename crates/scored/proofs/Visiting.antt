@@ -34,7 +34,7 @@ module _ (d m n : ℕ) (work tally : List ℕ) where
   visiting-starts h =
       table-of n m tally h
       ∙ ap (λ (t : List ℕ). over t tally)
-        (table-same (λ i p. getD tally (i * n + p) 0) (counts 0) n m (λ i p hi hp. rw (le-ltb i 0 (omega arith), add-zero)))
+      (table-same (λ i p. getD tally (i * n + p) 0) (counts 0) n m (λ i p hi hp. rw (le-ltb i 0 (omega arith), add-zero)))
 
   -- an entry, while the first b lists are visited
   visiting-at : (b i p : ℕ) → i < m → p < n → getD (visitedIn d m n work tally b) (i * n + p) 0 ≡ counts b i p
@@ -53,13 +53,13 @@ module _ (d m n : ℕ) (work tally : List ℕ) where
   counts-more i p j q place =
       by-cases (eqb i j)
       (λ (y : eqb i j ≡ true).
-        let e : i ≡ j = eqb-true i j y in
-        rw (← e, eq-eqb i i refl, place, le-ltb i i (omega arith), lt-ltb i (i + 1) (omega arith))
-        (by-cases (eqb p q)
-        (λ (u : eqb p q ≡ true). let e′ : p ≡ q = eqb-true p q u in rw (← e′, eq-eqb p p refl))
-        (λ (w : eqb p q ≡ false). rw w)))
+      let e : i ≡ j = eqb-true i j y in
+      rw (← e, eq-eqb i i refl, place, le-ltb i i (omega arith), lt-ltb i (i + 1) (omega arith))
+      (by-cases (eqb p q)
+      (λ (u : eqb p q ≡ true). let e′ : p ≡ q = eqb-true p q u in rw (← e′, eq-eqb p p refl))
+      (λ (w : eqb p q ≡ false). rw w)))
       (λ (z : eqb i j ≡ false).
-        rw (z, ltb-next i j (eqb-false i j z)))
+      rw (z, ltb-next i j (eqb-false i j z)))
     where
       ltb-next : (i j : ℕ) → (i ≡ j → ⊥) → ltb j (i + 1) ≡ ltb j i
       ltb-next i j apart =
@@ -75,8 +75,8 @@ module _ (d m n : ℕ) (work tally : List ℕ) where
       rw old
       (over-set (table (counts i) n m) tally (i * n + p) (getD tally (i * n + p) 0 + 1) inside
       ∙ ap (λ (t : List ℕ). over t tally)
-        (table-set (counts i) n m i p (getD tally (i * n + p) 0 + 1) hi hp
-        ∙ table-same (λ j q. cond (eqb i j && eqb p q) (getD tally (i * n + p) 0 + 1) (counts i j q)) (counts (i + 1)) n m (λ j q hj hq. counts-more i p j q place)))
+      (table-set (counts i) n m i p (getD tally (i * n + p) 0 + 1) hi hp
+      ∙ table-same (λ j q. cond (eqb i j && eqb p q) (getD tally (i * n + p) 0 + 1) (counts i j q)) (counts (i + 1)) n m (λ j q hj hq. counts-more i p j q place)))
 
 -- where a walk ends: at the first position that was not visited, or past the last
 pub walked-is : (i n b : ℕ) (tally : List ℕ) → b ≤ n → ((p : ℕ) → p < b → getD tally (i * n + p) 0 ≡ 0 → ⊥) → (b < n → getD tally (i * n + b) 0 ≡ 0) → b ≡ walkedTo i n tally
@@ -85,12 +85,12 @@ walked-is i n b tally h before stop =
     let t : ℕ → Bool = λ p. eqb (getD tally (i * n + p) 0) 0 in
     by-cases (ltb b n)
     (λ (y : ltb b n ≡ true).
-      sym (first-is t n 0 b (omega arith) (omega (arith, ltb-true b n y)) (eq-eqb (getD tally (i * n + b) 0) 0 (stop (ltb-true b n y)))
-      (λ r _ l. ne-eqb (getD tally (i * n + r) 0) 0 (before r l))))
+    sym (first-is t n 0 b (omega arith) (omega (arith, ltb-true b n y)) (eq-eqb (getD tally (i * n + b) 0) 0 (stop (ltb-true b n y)))
+    (λ r _ l. ne-eqb (getD tally (i * n + r) 0) 0 (before r l))))
     (λ (z : ltb b n ≡ false).
-      by-cases (ltb (first t n 0) n)
-      (λ (y : ltb (first t n 0) n ≡ true).
-        let here = first-passes t n 0 (omega (arith, ltb-true (first t n 0) n y)) in
-        absurd (before (first t n 0) (omega (arith, ltb-true (first t n 0) n y, ltb-false b n z)) (eqb-true (getD tally (i * n + first t n 0) 0) 0 here)))
-      (λ (w : ltb (first t n 0) n ≡ false).
-        omega (arith, first-most t n 0, ltb-false (first t n 0) n w, ltb-false b n z)))
+    by-cases (ltb (first t n 0) n)
+    (λ (y : ltb (first t n 0) n ≡ true).
+    let here = first-passes t n 0 (omega (arith, ltb-true (first t n 0) n y)) in
+    absurd (before (first t n 0) (omega (arith, ltb-true (first t n 0) n y, ltb-false b n z)) (eqb-true (getD tally (i * n + first t n 0) 0) 0 here)))
+    (λ (w : ltb (first t n 0) n ≡ false).
+    omega (arith, first-most t n 0, ltb-false (first t n 0) n w, ltb-false b n z)))

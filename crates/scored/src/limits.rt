@@ -1,8 +1,8 @@
 // The threshold of a row or round, and the test against it.
 ghost use mathlib.Core.Path.{_≡_};
-ghost use mathlib.Core.Bool.{_&&_};
+ghost use mathlib.Core.Bool.{_&&_, _||_};
 ghost use Prim.Native.Nat.{_+_, _-_, _*_, _≤_, _<_};
-ghost use lib.Dec.{leb};
+ghost use lib.Dec.{leb, eqb};
 ghost use lib.ListN.{length, getD};
 ghost use Rattle.scored.specs.Contracts.{Limited, limitAt};
 
@@ -31,8 +31,10 @@ fn threshold(rule: u8, weights: [u32; 8], m: usize, n: usize, at: [usize; 8], sc
     acc
 }
 
-// At least k items are met, and the k-th best score is at or above the threshold.
-pub fn reaches(
+// The search ends after p rows or rounds: at the last row, or when at least k items are met and the k-th best score
+// is at or above the threshold.
+pub fn ends(
+    p: usize,
     k: usize,
     filled: usize,
     rule: u8,
@@ -44,8 +46,11 @@ pub fn reaches(
     lows: &[u32],
 ) -> bool
     requires { ⌜ Limited m n at weights (now scores) × (1 ≤ k) × (k ≤ length (now lows)) ⌝ }
-    ensures { λ r. ⌜ r ≡ (leb k filled && leb (limitAt rule weights m n at (now (scores .entry))) (getD (now (lows .entry)) (k - 1) 0)) ⌝ }
+    ensures { λ r. ⌜ r ≡ (eqb p n || (leb k filled && leb (limitAt rule weights m n at (now (scores .entry))) (getD (now (lows .entry)) (k - 1) 0))) ⌝ }
 {
+    if p == n {
+        return true;
+    }
     if filled < k {
         return false;
     }

@@ -7,7 +7,6 @@ ghost use Rattle.laws.specs.Lookups.{once};
 ghost use Rattle.lists.specs.Contracts.{poses};
 ghost use Rattle.meeting.specs.Contracts.{queryWith};
 ghost use Rattle.scored.specs.State.{Meeting, Met, Goes, Standing, Looking, Turned, Rounding, Rounded};
-
 use crate::shortlist;
 use crate::visits;
 
@@ -73,7 +72,20 @@ pub fn row(
         let base = i * n;
         let at = base + p;
         let d = items[at];
-        kept = meet(d, m, n, rule, weights, k, kept, scores, picks, lows, tally, work);
+        kept = meet(
+            d,
+            m,
+            n,
+            rule,
+            weights,
+            k,
+            kept,
+            scores,
+            picks,
+            lows,
+            tally,
+            work,
+        );
         i += 1;
     }
     kept
@@ -105,7 +117,20 @@ fn look(
     let base = i * n;
     let at = base + b;
     let d = items[at];
-    meet(d, m, n, rule, weights, k, filled, scores, picks, lows, tally, work)
+    meet(
+        d,
+        m,
+        n,
+        rule,
+        weights,
+        k,
+        filled,
+        scores,
+        picks,
+        lows,
+        tally,
+        work,
+    )
 }
 
 // How many direct accesses a turn makes at a list whose best position is b.
@@ -155,7 +180,22 @@ pub fn round(
         let b = visits::walk_on(i, m, n, from, tally);
         next[i] = b;
         found += looked(b, n);
-        kept = look(i, b, m, n, rule, weights, k, kept, items, scores, picks, lows, tally, work);
+        kept = look(
+            i,
+            b,
+            m,
+            n,
+            rule,
+            weights,
+            k,
+            kept,
+            items,
+            scores,
+            picks,
+            lows,
+            tally,
+            work,
+        );
         i += 1;
     }
     Turn {

@@ -41,7 +41,8 @@ here c =
       list-small = omega (arith, c .loop-test .taken, at-start .pre .m-most);
       row-in = omega (arith, at-start .pre .scores-long);
       at-least = at-start .pre .at-least i (c .loop-test .taken);
-      at-most = at-start .pre .at-most i (c .loop-test .taken) }
+      at-most = at-start .pre .at-most i (c .loop-test .taken);
+    }
 
 loop-holds : tie.Need-loop-holds Inv-loop μ-loop
 unfolding joined
@@ -133,10 +134,11 @@ loop-again c =
     let in-turn = c .before .before .before in
     let i = at-loop .loop .i in
     let joins = c .join .ensures in
-    let most = join-most (at-start .args .rule) i (at-loop .loop .acc) (after-wider .wider .result * getD (at-start .args .t2) i 0) in
-    (omega (arith, in-turn .loop-test .taken),
-    omega (arith, product-small after-wider, joins, most, at-loop .loop .inv .1),
-    rw (add-one i, ← (at-loop .loop .inv .2), ← (read-is after-wider)) joins)
+    let most = join-most (at-start .args .rule) i (at-loop .loop .acc) (after-wider .wider .result * getD (at-start .args .t2) i 0) in (
+      omega (arith, in-turn .loop-test .taken),
+      omega (arith, product-small after-wider, joins, most, at-loop .loop .inv .1),
+      rw (add-one i, ← (at-loop .loop .inv .2), ← (read-is after-wider)) joins,
+    )
 
 returns : tie.Need-returns Inv-loop μ-loop
 unfolding limitAt

@@ -82,8 +82,9 @@ returns-2 c =
     let i = at-start .args .i in
     record {
       turns = λ tr v w whole e.
-        let more = after-meet .meet .ensures .looks-up (at-start .args .items .now) tr direct i (at-start .args .b) v w whole (at-start .pre .list-within) (here else1 .inside) refl in
-        goes-to (sym (rw e (next-look s tr i (λ full. else1 .if1 .left (e ∙ full))))) more }
+          let more = after-meet .meet .ensures .looks-up (at-start .args .items .now) tr direct i (at-start .args .b) v w whole (at-start .pre .list-within) (here else1 .inside) refl in
+          goes-to (sym (rw e (next-look s tr i (λ full. else1 .if1 .left (e ∙ full))))) more;
+    }
 
 pub look-spec : {M : Type 1} → statement M
 look-spec =

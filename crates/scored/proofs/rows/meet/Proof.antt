@@ -37,7 +37,8 @@ here c =
     record {
       item-in = omega (arith, at .work-long, at .item-small);
       place-least = least;
-      place-in = omega (arith, at .tally-long) }
+      place-in = omega (arith, at .tally-long);
+    }
 
 wide-requires : tie.Need-wide-requires
 wide-requires c κs = tt
@@ -99,14 +100,16 @@ returns c =
     let read = ap (λ (x : ℕ). getD (at-start .args .tally .now) (x - 1) 0) (place-read after-wide2) in
     record {
       looks-up = λ items tr a i p v w whole hi hp found.
-        record {
-          step = λ picks₀ lows₀ tally₀ at.
-            let s = poses (at-start .args .m) (at-start .args .n) items (at-start .args .scores .now) in
-            let q = queryWith (at-start .args .rule) (at-start .args .weights) in
-            let some : getD (at-start .args .tally .now) (getD (at-start .args .work .now) (at-start .args .d) 0 - 1) 0 ≡ 0 → ⊥ = λ e. c .if1 .taken (read ∙ e) in
-            let old = met-told s q (at-start .args .work .now) v w tr tally₀ (at .tally-is) whole (at-start .args .d) small
+          record {
+            step = λ picks₀ lows₀ tally₀ at.
+                let s = poses (at-start .args .m) (at-start .args .n) items (at-start .args .scores .now) in
+                let q = queryWith (at-start .args .rule) (at-start .args .weights) in
+                let some : getD (at-start .args .tally .now) (getD (at-start .args .work .now) (at-start .args .d) 0 - 1) 0 ≡ 0 → ⊥ = λ e. c .if1 .taken (read ∙ e) in
+                let old = met-told s q (at-start .args .work .now) v w tr tally₀ (at .tally-is) whole (at-start .args .d) small
                 ∙ le-leb 1 (getD (at-start .args .tally .now) (getD (at-start .args .work .now) (at-start .args .d) 0 - 1) 0) (pos-of-ne-zero some) in
-            meets-again s q (at-start .args .work .now) v w whole a i p (at-start .args .d) hi hp found small at (visited-d after-visit) (after-visit .visit .kept .1 .1 .1 .0) old } }
+                meets-again s q (at-start .args .work .now) v w whole a i p (at-start .args .d) hi hp found small at (visited-d after-visit) (after-visit .visit .kept .1 .1 .1 .0) old;
+          };
+    }
 
 bound-requires : tie.Need-bound-requires
 bound-requires c κs =
@@ -141,17 +144,19 @@ returns-2 c =
     let read = ap (λ (x : ℕ). getD (at-start .args .tally .now) (x - 1) 0) (place-read after-wide2) in
     record {
       looks-up = λ items tr a i p v w whole hi hp found.
-        record {
-          step = λ picks₀ lows₀ tally₀ at.
-            let s = poses (at-start .args .m) (at-start .args .n) items (at-start .args .scores .now) in
-            let q = queryWith (at-start .args .rule) (at-start .args .weights) in
-            let fresh = met-told s q (at-start .args .work .now) v w tr tally₀ (at .tally-is) whole (at-start .args .d) small
+          record {
+            step = λ picks₀ lows₀ tally₀ at.
+                let s = poses (at-start .args .m) (at-start .args .n) items (at-start .args .scores .now) in
+                let q = queryWith (at-start .args .rule) (at-start .args .weights) in
+                let fresh = met-told s q (at-start .args .work .now) v w tr tally₀ (at .tally-is) whole (at-start .args .d) small
                 ∙ lt-leb 1 (getD (at-start .args .tally .now) (getD (at-start .args .work .now) (at-start .args .d) 0 - 1) 0) (omega (arith, sym read ∙ else1 .if1 .left)) in
-            let score : after-bound .bound .result ≡ total s q (at-start .args .d) =
-              (rw (after-wide .wide .ensures) at (after-bound .bound .ensures)) ∙ score-is s q (at-start .args .work .now) v w (at-start .args .d) small in
-            meets-new s q (at-start .args .work .now) v w whole a i p (at-start .args .d) hi hp found small at (visited-d after-visit) (after-visit .visit .kept .1 .1 .1 .0) fresh
-            (after-keep .keep .ensures .inserts (total s q) (take (at-start .args .k) (ranking s q tr)) picks₀ lows₀ (at .shortlist) score
-            (not-kept s q (at-start .args .work .now) v w whole a i p (at-start .args .d) hi hp found small (at-start .args .k) fresh)) } }
+                let score : after-bound .bound .result ≡ total s q (at-start .args .d) =
+                (rw (after-wide .wide .ensures) at (after-bound .bound .ensures)) ∙ score-is s q (at-start .args .work .now) v w (at-start .args .d) small in
+                meets-new s q (at-start .args .work .now) v w whole a i p (at-start .args .d) hi hp found small at (visited-d after-visit) (after-visit .visit .kept .1 .1 .1 .0) fresh
+                (after-keep .keep .ensures .inserts (total s q) (take (at-start .args .k) (ranking s q tr)) picks₀ lows₀ (at .shortlist) score
+                (not-kept s q (at-start .args .work .now) v w whole a i p (at-start .args .d) hi hp found small (at-start .args .k) fresh));
+          };
+    }
 
 pub meet-spec : {M : Type 1} → statement M
 meet-spec =

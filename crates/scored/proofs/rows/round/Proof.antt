@@ -116,9 +116,10 @@ look-requires c κs =
       at-most = omega (arith, at-best, best-most (lent at-start) (round (lent at-start) (rounds (lent at-start) r) i) i);
       items-long = v .items-long;
       meeting = λ hb.
-        meeting-of (at-start .args .m) (at-start .args .n) (at-start .args .rule) (at-start .args .weights) (at-start .args .items .now) (at-start .args .scores .now) (at-start .args .work .now)
-        (standing .readable) (standing .keeps) (standing .tally-long) (state-now standing (part-of in-turn .goes)) (item (lent at-start) i b) (v .is-item i b (in-turn .loop-test .taken) hb)
-        (λ j hj. part-count (lent at-start) v r i b j (in-turn .loop-test .taken) at-best hb hj) }
+          meeting-of (at-start .args .m) (at-start .args .n) (at-start .args .rule) (at-start .args .weights) (at-start .args .items .now) (at-start .args .scores .now) (at-start .args .work .now)
+          (standing .readable) (standing .keeps) (standing .tally-long) (state-now standing (part-of in-turn .goes)) (item (lent at-start) i b) (v .is-item i b (in-turn .loop-test .taken) hb)
+          (λ j hj. part-count (lent at-start) v r i b j (in-turn .loop-test .taken) at-best hb hj);
+    }
 
 add-i : tie.Need-add-i Inv-loop μ-loop
 add-i c =
@@ -143,15 +144,16 @@ loop-again c =
     let i = at-loop .loop .i in
     let b = after-walk-on .walk-on .result in
     let count = after-looked .looked .ensures in
-    let v = at-start .pre .standing .readable .lists-valid in
-    (omega (arith, in-turn .loop-test .taken),
-    omega (arith, count, once-most b (at-start .args .n), at-loop .loop .inv .1),
-    simp length-set (at-loop .loop .inv .2),
-    λ r standing reached.
-      let at-best = best-of after-walk-on r standing reached in
-      rw count
-      (part-more (at-loop .loop .inv .3 r standing reached) b (in-turn .loop-test .taken) (omega (arith, at-loop .loop .inv .2, in-turn .loop-test .taken, v .size .m-most)) at-best
-      (after-look .look .ensures .turns (round s (rounds s r) i) (standing .readable .lists-valid) (standing .readable .work-placed) (part-whole s (standing .readable .lists-valid) r i (at-loop .loop .inv .0)) at-best)))
+    let v = at-start .pre .standing .readable .lists-valid in (
+      omega (arith, in-turn .loop-test .taken),
+      omega (arith, count, once-most b (at-start .args .n), at-loop .loop .inv .1),
+      simp length-set (at-loop .loop .inv .2),
+      λ r standing reached.
+          let at-best = best-of after-walk-on r standing reached in
+          rw count
+          (part-more (at-loop .loop .inv .3 r standing reached) b (in-turn .loop-test .taken) (omega (arith, at-loop .loop .inv .2, in-turn .loop-test .taken, v .size .m-most)) at-best
+          (after-look .look .ensures .turns (round s (rounds s r) i) (standing .readable .lists-valid) (standing .readable .work-placed) (part-whole s (standing .readable .lists-valid) r i (at-loop .loop .inv .0)) at-best)),
+    )
 
 -- the slices keep their lengths
 now-at : (c : tie.After-loop Inv-loop μ-loop) → State (lent (c .before .before .before .before .before .before .before .before)) (asked (c .before .before .before .before .before .before .before .before)) ((c .before .before .before .before .before .before .before .before) .args .k) (round (lent (c .before .before .before .before .before .before .before .before)) (rounds (lent (c .before .before .before .before .before .before .before .before)) ((c .before .before .before .before .before .before .before .before) .pre .done)) ((c .before) .loop .i)) ((c .before .before .before .before .before .before .before .before) .args .picks .now) ((c .before .before .before .before .before .before .before .before) .args .lows .now) ((c .before .before .before .before .before .before .before .before) .args .tally .now) ((c .before) .loop .kept) ((c .before) .loop .picks) ((c .before) .loop .lows) ((c .before) .loop .tally)
@@ -185,7 +187,8 @@ returns c =
       goes = λ r standing reached. rw (whole-round s r (at-loop .loop .i) whole) at (part r standing reached .goes);
       reached = λ r standing reached. rw (whole-round s r (at-loop .loop .i) whole) at (part r standing reached .reached);
       counted = λ r standing reached. rw (whole-round s r (at-loop .loop .i) whole) at (part r standing reached .counted);
-      few = omega (arith, at-loop .loop .inv .0, at-loop .loop .inv .1) }
+      few = omega (arith, at-loop .loop .inv .0, at-loop .loop .inv .1);
+    }
 
 pub round-spec : {M : Type 1} → statement M
 round-spec =

@@ -41,7 +41,8 @@ here c =
     let room = table-room (c .before .loop .i) (at-start .args .m) (at-start .args .n) (c .loop-test .taken) in
     record {
       inside = at-start .pre .1;
-      entry-in = omega (arith, at-start .pre .1, at-start .pre .0 .readable .lists-valid .items-long) }
+      entry-in = omega (arith, at-start .pre .1, at-start .pre .0 .readable .lists-valid .items-long);
+    }
 
 loop-holds : tie.Need-loop-holds Inv-loop μ-loop
 unfolding rowTA

@@ -26,12 +26,12 @@ here c =
     let most = after-seat .seat .ensures .seat-most in
     by-cases (ltb (at-start .args .filled) (at-start .args .k))
     (λ y.
-      let free = ltb-true (at-start .args .filled) (at-start .args .k) y in
-      let e = c .last-place .ensures .0 free in
-      record { seat-within = omega arith; last-within = omega arith })
+    let free = ltb-true (at-start .args .filled) (at-start .args .k) y in
+    let e = c .last-place .ensures .0 free in
+    record { seat-within = omega arith; last-within = omega arith })
     (λ z.
-      let e = c .last-place .ensures .1 (ltb-false (at-start .args .filled) (at-start .args .k) z) in
-      record { seat-within = omega (arith, room .filled-most, else1 .if1 .left); last-within = omega arith })
+    let e = c .last-place .ensures .1 (ltb-false (at-start .args .filled) (at-start .args .k) z) in
+    record { seat-within = omega (arith, room .filled-most, else1 .if1 .left); last-within = omega arith })
 
 seat-requires : tie.Need-seat-requires
 seat-requires c κs =
@@ -49,7 +49,8 @@ returns c =
     let at-start = c .before .before .before .before .before .before in
     let after-seat = c .before in
     record {
-      inserts = λ f l picks₀ lows₀ at score new. kept-out at score new (at-start .pre) (after-seat .seat .ensures) (c .if1 .taken) }
+      inserts = λ f l picks₀ lows₀ at score new. kept-out at score new (at-start .pre) (after-seat .seat .ensures) (c .if1 .taken);
+    }
 
 last-place-requires : tie.Need-last-place-requires
 last-place-requires c κs =
@@ -91,8 +92,9 @@ returns-2 c =
     let place = after-last-place .last-place .ensures in
     record {
       inserts = λ f l picks₀ lows₀ at score new.
-        kept-in at score new (at-start .pre) (after-slide-items .slide-items .last .0) (after-slide-scores .slide-scores .last .0)
-        (after-seat .seat .ensures) (else1 .if1 .left) (place .0) (place .1) (after-slide-items .slide-items .ensures) (after-slide-scores .slide-scores .ensures) }
+          kept-in at score new (at-start .pre) (after-slide-items .slide-items .last .0) (after-slide-scores .slide-scores .last .0)
+          (after-seat .seat .ensures) (else1 .if1 .left) (place .0) (place .1) (after-slide-items .slide-items .ensures) (after-slide-scores .slide-scores .ensures);
+    }
 
 pub keep-spec : {M : Type 1} → statement M
 keep-spec =

@@ -63,13 +63,14 @@ loop-again c =
     let after-ahead = c .before in
     let at-loop = c .before .before .before .before .before in
     let here = sym (after-ahead .ahead .ensures) ∙ c .if1 .taken in
-    let j = at-loop .loop .j in
-    (omega (arith, at-loop .loop .inv .0),
-    λ i h l.
-      ⊎-elim
-      (λ (e : j - 1 ≡ i). rw (← e) here)
-      (λ (k : j - 1 < i). at-loop .loop .inv .1 i (omega arith) l)
-      (eq-or-lt-of-le h))
+    let j = at-loop .loop .j in (
+      omega (arith, at-loop .loop .inv .0),
+      λ i h l.
+          ⊎-elim
+          (λ (e : j - 1 ≡ i). rw (← e) here)
+          (λ (k : j - 1 < i). at-loop .loop .inv .1 i (omega arith) l)
+          (eq-or-lt-of-le h),
+    )
 
 returns : tie.Need-returns Inv-loop μ-loop
 returns c =
@@ -80,7 +81,8 @@ returns c =
     record {
       seat-most = at-loop .loop .inv .0;
       before-rest = at-loop .loop .inv .1;
-      behind-front = λ i e. let same : j - 1 ≡ i = omega arith in rw (← same) here }
+      behind-front = λ i e. let same : j - 1 ≡ i = omega arith in rw (← same) here;
+    }
 
 returns-2 : tie.Need-returns-2 Inv-loop μ-loop
 returns-2 c =
@@ -89,7 +91,8 @@ returns-2 c =
     record {
       seat-most = at-loop .loop .inv .0;
       before-rest = at-loop .loop .inv .1;
-      behind-front = λ i e. absurd (omega (arith, c .loop-test .left)) }
+      behind-front = λ i e. absurd (omega (arith, c .loop-test .left));
+    }
 
 pub seat-spec : {M : Type 1} → statement M
 seat-spec =

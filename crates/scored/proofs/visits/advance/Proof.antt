@@ -72,14 +72,15 @@ loop-again c =
     let i = at-loop .loop .i in
     let next = at-loop .loop .next in
     let b = after-walk-on .walk-on .result in
-    let inside : i < length next = omega (arith, at-loop .loop .inv .1, in-turn .loop-test .taken, at-start .pre .m-most) in
-    (omega (arith, in-turn .loop-test .taken),
-    simp length-set (at-loop .loop .inv .1),
-    λ j h.
-      below-suc j i (rw (add-one i) at h)
-      (λ (l : j < i). getD-set-other next i j b 0 (λ e. omega arith) ∙ at-loop .loop .inv .2 j l)
-      (λ (e : j ≡ i). rw e (getD-set-same next i b 0 inside ∙ after-walk-on .walk-on .ensures)),
-    λ j h. getD-set-other next i j b 0 (λ e. omega arith) ∙ at-loop .loop .inv .3 j (omega arith))
+    let inside : i < length next = omega (arith, at-loop .loop .inv .1, in-turn .loop-test .taken, at-start .pre .m-most) in (
+      omega (arith, in-turn .loop-test .taken),
+      simp length-set (at-loop .loop .inv .1),
+      λ j h.
+          below-suc j i (rw (add-one i) at h)
+          (λ (l : j < i). getD-set-other next i j b 0 (λ e. omega arith) ∙ at-loop .loop .inv .2 j l)
+          (λ (e : j ≡ i). rw e (getD-set-same next i b 0 inside ∙ after-walk-on .walk-on .ensures)),
+      λ j h. getD-set-other next i j b 0 (λ e. omega arith) ∙ at-loop .loop .inv .3 j (omega arith),
+    )
 
 returns : tie.Need-returns Inv-loop μ-loop
 returns c =

@@ -37,7 +37,8 @@ here c =
       row-in-work = omega (arith, asked .work-long);
       item-small = asked .item-small;
       place-least = asked .place-least i (c .loop-test .taken);
-      place-most = asked .place-most i (c .loop-test .taken) }
+      place-most = asked .place-most i (c .loop-test .taken);
+    }
 
 loop-holds : tie.Need-loop-holds Inv-loop μ-loop
 loop-holds c =
@@ -127,11 +128,12 @@ loop-again c =
     let in-turn = c .before .before .before in
     let after-wide = c .before in
     let place = getD (at-start .args .work .now) (at-loop .loop .i * at-start .args .n + at-start .args .d) 0 in
-    let inside : place - 1 < at-start .args .n = omega (arith, here in-turn) in
-    (omega (arith, in-turn .loop-test .taken),
-    simp length-set (at-loop .loop .inv .1),
-    rw (seen-is after-wide, at-loop .loop .inv .2)
-    (visiting-goes-on (at-start .args .d) (at-start .args .m) (at-start .args .n) (at-start .args .work .now) (at-start .args .tally .now) (at-loop .loop .i) (place - 1) (in-turn .loop-test .taken) inside refl))
+    let inside : place - 1 < at-start .args .n = omega (arith, here in-turn) in (
+      omega (arith, in-turn .loop-test .taken),
+      simp length-set (at-loop .loop .inv .1),
+      rw (seen-is after-wide, at-loop .loop .inv .2)
+          (visiting-goes-on (at-start .args .d) (at-start .args .m) (at-start .args .n) (at-start .args .work .now) (at-start .args .tally .now) (at-loop .loop .i) (place - 1) (in-turn .loop-test .taken) inside refl),
+    )
 
 same-length : tie.Need-same-length Inv-loop μ-loop
 same-length c =
