@@ -1,0 +1,3 @@
+-- What the four searches promise.
+--     Contracts      the records that the functions' contracts cite
+pub mod Contracts

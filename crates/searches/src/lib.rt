@@ -1,0 +1,2 @@
+// The four searches.
+mod admission;
