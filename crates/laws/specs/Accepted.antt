@@ -11,7 +11,7 @@ use mathlib.Core.Bool.{Bool, true, false, not, _&&_, _||_}
 use mathlib.Core.Logic.{⊎-elim}
 use mathlib.Core.List.{List}
 use Prim.Native.Nat.{ℕ, zero, suc, _+_, _-_, _*_, _≤_, _<_}
-use native.Mathlib.Nat.{not-suc-le-zero, eq-or-lt-of-le}
+use native.Mathlib.Nat.{not-suc-le-zero, eq-or-lt-of-le, mul-le-mul}
 use native.Mathlib.Numerals.{sub-one}
 use native.Mathlib.Omega.{arith}
 use lib.Dec.{eqb, leb, ltb}
@@ -45,6 +45,10 @@ sized m n e =
     let a = within-parts 1 8 m (p .0) in
     let b = within-parts 1 1024 n (p .1) in
     record { m-least = a .0; m-most = a .1; n-least = b .0; n-most = b .1 }
+
+-- m x n of such sizes
+pub size-fits : {m n : ℕ} → Sized m n → m * n ≤ 8192
+size-fits z = mul-le-mul (z .m-most) (z .n-most)
 
 pub long : (size : ℕ) (l : List ℕ) → short size l ≡ false → size ≤ length l
 unfolding short

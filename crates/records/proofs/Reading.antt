@@ -1,0 +1,96 @@
+-- What the two reads promise, in each of their ways out.
+--     query-refused, query-taken                     a query that is refused, that is read
+--     lists-refused, items-short, scores-short, lists-taken      lists that are refused by their head, by 6, that are read
+--     fill-more                                      one entry more in a slice that is filled from its start
+-- Assumes nothing.
+use mathlib.Core.Path.{_≡_, refl, sym, ap, _∙_}
+use mathlib.Core.Bool.{Bool, true, false, _||_, or-true}
+use mathlib.Core.List.{List, [], _∷_, _++_}
+use Prim.Native.Nat.{ℕ, suc, _+_, _*_, _≤_, _<_}
+use native.Mathlib.Numerals.{add-one}
+use native.Mathlib.Omega.{arith}
+use lib.ListN.{length, getD, set, drop, length-append}
+use lib.Seq.{drop-cons, append-snoc, set-at}
+use borrow.Author.Tests.{lt-ltb, le-ltb}
+use Rattle.model.specs.Words.{row, over}
+use Rattle.model.specs.Refusals.{accepted, refused, pair, short}
+use Rattle.model.specs.Answers.{told, written}
+use Rattle.model.specs.Records.{byte, queryRule, queryK, queryCount, queryHead, queryAnswer, readQuery, listsM, listsN, entryItem, entryScore, listsHead, listsVerdict, listsAnswer, readLists, itemsAfter, scoresAfter}
+use Rattle.laws.specs.Lists.{row-length, row-same}
+use Rattle.laws.specs.Accepted.{size-fits}
+use Rattle.records.specs.declared.QueryRead.{QueryRead}
+use Rattle.records.specs.declared.ListsRead.{ListsRead}
+use Rattle.records.specs.Contracts.{valueOfQuery, queryRefusal, QueryIsRead, valueOfLists, listsRefusal, ListsAreRead, everyFourth}
+use Rattle.records.specs.Heads.{refused-by, lists-held}
+
+-- ---- a query
+module _ (b : List ℕ) where
+  pub query-refused : {x : ℕ} {r : QueryRead} → x ≡ told (queryHead b) .number → (x ≡ 0 → ⊥) → valueOfQuery r ≡ queryRefusal x → QueryIsRead b r
+  unfolding readQuery queryAnswer
+  query-refused {x} e bad says =
+      refused-by (queryHead b) e bad (λ i p (refuses : queryHead b ≡ refused x i p). record { answers = rw refuses says })
+
+  pub query-taken : (k c : ℕ) → queryHead b ≡ accepted → k ≡ pair b 6 → c ≡ byte b 8 → QueryIsRead b (record { number = 0; rule = byte b 5; k = k; c = c; bytes = 9 + 2 * c })
+  unfolding readQuery queryAnswer queryRule queryK queryCount
+  query-taken k c passes k-is c-is = record { answers = rw (passes, k-is, c-is) }
+
+-- ---- a slice that is filled from its start
+pub fill-more : (f : ℕ → ℕ) (j : ℕ) (lent : List ℕ) → j < length lent → set (over (row f j) lent) j (f j) ≡ over (row f (j + 1)) lent
+unfolding over row
+fill-more f j lent h =
+    rw (add-one j, length-append, row-length f j)
+    (ap (λ (l : List ℕ). set (row f j ++ l) j (f j)) (drop-cons lent j 0 h)
+    ∙ set-at (row f j) (getD lent j 0) (drop (suc j) lent) (f j) j (row-length f j)
+    ∙ rw (add-one j) (sym (append-snoc (row f j) (f j) (drop (suc j) lent))))
+
+-- ---- lists
+-- The sizes that were read of a list record that passes: m x n is small, and the bytes are head, house weights and m x n entries
+pub record Sizes (b : List ℕ) (m n : ℕ) : Type 0 where
+  pub small : m * n ≤ 8192
+  pub whole : length b ≡ 8 + 2 * m + 4 * (m * n)
+
+pub sizes-read : (b : List ℕ) {m n : ℕ} → listsHead b ≡ accepted → m ≡ byte b 5 → n ≡ pair b 6 → Sizes b m n
+unfolding listsM listsN
+sizes-read b passes m-is n-is =
+    let held = lists-held b passes in
+    rw (m-is, n-is) (record { small = size-fits (held .sizes); whole = held .whole })
+
+module _ (b items scores : List ℕ) where
+  -- a refusal leaves both slices as lent
+  refused-leaves : {x i p : ℕ} {r : ListsRead} → listsVerdict b items scores ≡ refused x i p → valueOfLists r ≡ listsRefusal x → ListsAreRead b items scores r items scores
+  unfolding readLists listsAnswer itemsAfter scoresAfter written
+  refused-leaves e says = record { answers = rw e says; leaves-items = rw e; leaves-scores = rw e }
+
+  pub lists-refused : {x : ℕ} {r : ListsRead} → x ≡ told (listsHead b) .number → (x ≡ 0 → ⊥) → valueOfLists r ≡ listsRefusal x → ListsAreRead b items scores r items scores
+  unfolding listsVerdict
+  lists-refused {x} e bad says =
+      refused-by (listsHead b) e bad (λ i p (refuses : listsHead b ≡ refused x i p). refused-leaves {i = i} {p = p} (rw refuses) says)
+
+  module _ (passes : listsHead b ≡ accepted) {m n : ℕ} (m-is : m ≡ byte b 5) (n-is : n ≡ pair b 6) where
+    pub items-short : {r : ListsRead} → length items < m * n → valueOfLists r ≡ listsRefusal 6 → ListsAreRead b items scores r items scores
+    unfolding listsVerdict short listsM listsN
+    items-short h says = refused-leaves {i = 0} {p = 0} (rw (passes, ← m-is, ← n-is, lt-ltb (length items) (m * n) h)) says
+
+    module _ (items-room : m * n ≤ length items) where
+      pub scores-short : {r : ListsRead} → length scores < m * n → valueOfLists r ≡ listsRefusal 6 → ListsAreRead b items scores r items scores
+      unfolding listsVerdict short listsM listsN
+      scores-short h says =
+          refused-leaves {i = 0} {p = 0}
+          (rw (passes, ← m-is, ← n-is, le-ltb (length items) (m * n) items-room, lt-ltb (length scores) (m * n) h)) says
+
+      module _ (scores-room : m * n ≤ length scores) where
+        accepts : listsVerdict b items scores ≡ accepted
+        unfolding listsVerdict short listsM listsN
+        accepts = rw (passes, ← m-is, ← n-is, le-ltb (length items) (m * n) items-room, le-ltb (length scores) (m * n) scores-room)
+
+        pub lists-taken : {i s : List ℕ} → i ≡ over (row (everyFourth b (8 + 2 * m)) (m * n)) items → s ≡ over (row (everyFourth b (8 + 2 * m + 2)) (m * n)) scores → ListsAreRead b items scores (record { number = 0; m = m; n = n }) i s
+        unfolding readLists listsAnswer itemsAfter scoresAfter written entryItem entryScore listsM listsN
+        lists-taken i-is s-is =
+            let shifted : row (everyFourth b (8 + 2 * m + 2)) (m * n) ≡ row (everyFourth b (10 + 2 * m)) (m * n) =
+            row-same (everyFourth b (8 + 2 * m + 2)) (everyFourth b (10 + 2 * m)) (m * n)
+            (λ j _. let at : 8 + 2 * m + 2 + 4 * j ≡ 10 + 2 * m + 4 * j = omega arith in ap (pair b) at) in
+            record {
+              answers = rw (accepts, m-is, n-is);
+              leaves-items = rw accepts (rw (m-is, n-is) at i-is);
+              leaves-scores = rw accepts (rw (m-is, n-is) at (s-is ∙ ap (λ (l : List ℕ). over l scores) shifted));
+            }

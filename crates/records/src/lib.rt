@@ -1,0 +1,191 @@
+// The reads of a query record and of a list record, and the weights chosen from the one or the other.
+// Numbers are big-endian, and a record's length counts the bytes after itself.
+ghost use mathlib.Core.Path.{_≡_};
+ghost use Prim.Native.Nat.{_+_, _≤_, _<_};
+ghost use lib.ListN.{length};
+ghost use Rattle.model.specs.Words.{row, over};
+ghost use Rattle.model.specs.Refusals.{pair};
+ghost use Rattle.model.specs.Records.{quad, queryHead, listsHead};
+ghost use Rattle.model.specs.Answers.{told};
+ghost use Rattle.records.specs.Contracts.{valueOfQuery, queryRefusal, valueOfLists, listsRefusal, everyFourth, Filling, QueryIsRead, ListsAreRead, WeightsChosen};
+
+// What the read of a query answers: a refusal's number with all else 0, or number 0 and the query.
+// `rule` is the record's own byte and `k` what a search counts with, so a caller hands both on as they are;
+// `c` and `bytes` count bytes of the input, and `&input[bytes..]` is what follows the record.
+pub struct QueryRead {
+    pub number: u32,
+    pub rule: u8,
+    pub k: usize,
+    pub c: usize,
+    pub bytes: usize,
+}
+
+// What the read of lists answers: a refusal's number with all else 0, or number 0 and the sizes.
+pub struct ListsRead {
+    pub number: u32,
+    pub m: usize,
+    pub n: usize,
+}
+
+fn wide(x: u8) -> usize
+    ensures { λ r. ⌜ (r ≡ x) × (r < 256) ⌝ }
+{
+    x as usize
+}
+
+// The number in the two bytes from `at` on.
+fn pair_at(bytes: &[u8], at: usize) -> usize
+    requires { ⌜ at + 1 < length (now bytes) ⌝ }
+    ensures { λ r. ⌜ (r ≡ pair (now (bytes .entry)) at) × (r < 65536) ⌝ }
+{
+    wide(bytes[at]) * 256 + wide(bytes[at + 1])
+}
+
+// A record's length, in its first four bytes. It reaches 2^32 - 1, so sums with it want more than 32 bits.
+fn length_of(bytes: &[u8]) -> usize
+    requires { ⌜ 4 ≤ length (now bytes) ⌝ }
+    ensures { λ r. ⌜ r ≡ quad (now (bytes .entry)) 0 ⌝ }
+{
+    pair_at(bytes, 0) * 65536 + pair_at(bytes, 2)
+}
+
+// The tests of a query record: the number of the first that refuses, and 0 where none does.
+fn query_fault(bytes: &[u8]) -> u32
+    ensures { λ r. ⌜ r ≡ told (queryHead (now (bytes .entry))) .number ⌝ }
+{
+    if bytes.len() < 9 {
+        return 10;
+    }
+    if bytes[4] != 1 {
+        return 12;
+    }
+    let length = length_of(bytes);
+    let count = wide(bytes[8]);
+    if length != 5 + 2 * count {
+        return 13;
+    }
+    if bytes.len() - 4 < length {
+        return 11;
+    }
+    0
+}
+
+// The tests of a list record but for the last, 6: the number of the first that refuses, and 0 where none does.
+fn lists_fault(bytes: &[u8]) -> u32
+    ensures { λ r. ⌜ r ≡ told (listsHead (now (bytes .entry))) .number ⌝ }
+{
+    if bytes.len() < 8 {
+        return 10;
+    }
+    let length = length_of(bytes);
+    if length != bytes.len() - 4 {
+        return 11;
+    }
+    if bytes[4] != 1 {
+        return 12;
+    }
+    let m = wide(bytes[5]);
+    let n = pair_at(bytes, 6);
+    if lists::wrong_size(m, n) {
+        return 1;
+    }
+    if length != 4 + 2 * m + 4 * (m * n) {
+        return 13;
+    }
+    0
+}
+
+// A refused read of a query answers the number alone.
+fn query_refused(number: u32) -> QueryRead
+    ensures { λ r. ⌜ valueOfQuery r ≡ queryRefusal number ⌝ }
+{
+    QueryRead {
+        number,
+        rule: 0,
+        k: 0,
+        c: 0,
+        bytes: 0,
+    }
+}
+
+// Reads a query record from the start of `bytes`; others may follow it.
+pub fn read_query(bytes: &[u8]) -> QueryRead
+    ensures { λ r. ⌜ QueryIsRead (now (bytes .entry)) r ⌝ }
+{
+    let number = query_fault(bytes);
+    if number != 0 {
+        return query_refused(number);
+    }
+    let k = pair_at(bytes, 6);
+    let c = wide(bytes[8]);
+    QueryRead {
+        number: 0,
+        rule: bytes[5],
+        k,
+        c,
+        bytes: 9 + 2 * c,
+    }
+}
+
+// Puts one half of `size` entries, the pairs at `from`, `from` + 4, .., into the first places.
+fn fill(bytes: &[u8], from: usize, size: usize, slice: &mut [u16])
+    requires { ⌜ Filling (now bytes) from size (now slice) ⌝ }
+    ensures { λ _. ⌜ now (slice .exit) ≡ over (row (everyFourth (now (bytes .entry)) from) size) (now (slice .entry)) ⌝ }
+{
+    let mut j = 0;
+    while j < size {
+        let at = from + 4 * j;
+        slice[j] = pair_at(bytes, at) as u16;
+        j += 1;
+    }
+}
+
+// A refused read of lists answers the number alone.
+fn lists_refused(number: u32) -> ListsRead
+    ensures { λ r. ⌜ valueOfLists r ≡ listsRefusal number ⌝ }
+{
+    ListsRead { number, m: 0, n: 0 }
+}
+
+// Reads a list record, which is all of `bytes`, into an item slice and a score slice.
+pub fn read_lists(bytes: &[u8], items: &mut [u16], scores: &mut [u16]) -> ListsRead
+    ensures { λ r. ⌜ ListsAreRead (now (bytes .entry)) (now (items .entry)) (now (scores .entry)) r (now (items .exit)) (now (scores .exit)) ⌝ }
+{
+    let number = lists_fault(bytes);
+    if number != 0 {
+        return lists_refused(number);
+    }
+    let m = wide(bytes[5]);
+    let n = pair_at(bytes, 6);
+    let size = m * n;
+    if items.len() < size {
+        return lists_refused(6);
+    }
+    if scores.len() < size {
+        return lists_refused(6);
+    }
+    let start = 8 + 2 * m;
+    fill(bytes, start, size, items);
+    fill(bytes, start + 2, size, scores);
+    ListsRead { number: 0, m, n }
+}
+
+// The weights of a query: those of its own record, or where it has none the house weights of the list record.
+// It is a part of the one record or the other, uncopied, and empty where a read refuses either.
+pub fn chosen_weights<'a>(query: &'a [u8], lists: &'a [u8]) -> &'a [u8]
+    ensures { λ r. ⌜ WeightsChosen (query .entry) (lists .entry) r ⌝ }
+{
+    if query_fault(query) != 0 {
+        return &query[0..0];
+    }
+    if lists_fault(lists) != 0 {
+        return &query[0..0];
+    }
+    let c = wide(query[8]);
+    if c == 0 {
+        let end = 8 + 2 * wide(lists[5]);
+        return &lists[8..end];
+    }
+    let end = 9 + 2 * c;
+    &query[9..end]
+}
