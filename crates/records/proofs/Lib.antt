@@ -1,7 +1,7 @@
 -- Laws that the proofs of this crate cite.
---     Faults     the tests of each record, from the comparisons that the code makes
+--     HeadTests  the tests of each record, from the comparisons that the code makes
 --     Reading    the ways out of the two reads
 --     Choosing   the ways out of the choice of the weights
-mod Faults
+mod HeadTests
 mod Reading
 mod Choosing

@@ -30,8 +30,8 @@ module _ (b : List ℕ) where
   query-refused {x} e bad says =
       refused-by (queryHead b) e bad (λ i p (refuses : queryHead b ≡ refused x i p). record { answers = rw refuses says })
 
-  pub query-taken : (k c : ℕ) → queryHead b ≡ accepted → k ≡ pair b 6 → c ≡ byte b 8 → QueryIsRead b (record { number = 0; rule = byte b 5; k = k; c = c; bytes = 9 + 2 * c })
-  unfolding readQuery queryAnswer queryRule queryK queryCount
+  pub query-taken : (k c : ℕ) → queryHead b ≡ accepted → k ≡ pair b 6 → c ≡ queryCount b → QueryIsRead b (record { number = 0; rule = byte b 5; k = k; c = c; bytes = 9 + 2 * c })
+  unfolding readQuery queryAnswer queryRule queryK
   query-taken k c passes k-is c-is = record { answers = rw (passes, k-is, c-is) }
 
 -- ---- a slice that is filled from its start
@@ -49,8 +49,7 @@ pub record Sizes (b : List ℕ) (m n : ℕ) : Type 0 where
   pub small : m * n ≤ 8192
   pub whole : length b ≡ 8 + 2 * m + 4 * (m * n)
 
-pub sizes-read : (b : List ℕ) {m n : ℕ} → listsHead b ≡ accepted → m ≡ byte b 5 → n ≡ pair b 6 → Sizes b m n
-unfolding listsM listsN
+pub sizes-read : (b : List ℕ) {m n : ℕ} → listsHead b ≡ accepted → m ≡ listsM b → n ≡ listsN b → Sizes b m n
 sizes-read b passes m-is n-is =
     let held = lists-held b passes in
     rw (m-is, n-is) (record { small = size-fits (held .sizes); whole = held .whole })
@@ -66,25 +65,25 @@ module _ (b items scores : List ℕ) where
   lists-refused {x} e bad says =
       refused-by (listsHead b) e bad (λ i p (refuses : listsHead b ≡ refused x i p). refused-leaves {i = i} {p = p} (rw refuses) says)
 
-  module _ (passes : listsHead b ≡ accepted) {m n : ℕ} (m-is : m ≡ byte b 5) (n-is : n ≡ pair b 6) where
+  module _ (passes : listsHead b ≡ accepted) {m n : ℕ} (m-is : m ≡ listsM b) (n-is : n ≡ listsN b) where
     pub items-short : {r : ListsRead} → length items < m * n → valueOfLists r ≡ listsRefusal 6 → ListsAreRead b items scores r items scores
-    unfolding listsVerdict short listsM listsN
+    unfolding listsVerdict short
     items-short h says = refused-leaves {i = 0} {p = 0} (rw (passes, ← m-is, ← n-is, lt-ltb (length items) (m * n) h)) says
 
     module _ (items-room : m * n ≤ length items) where
       pub scores-short : {r : ListsRead} → length scores < m * n → valueOfLists r ≡ listsRefusal 6 → ListsAreRead b items scores r items scores
-      unfolding listsVerdict short listsM listsN
+      unfolding listsVerdict short
       scores-short h says =
           refused-leaves {i = 0} {p = 0}
           (rw (passes, ← m-is, ← n-is, le-ltb (length items) (m * n) items-room, lt-ltb (length scores) (m * n) h)) says
 
       module _ (scores-room : m * n ≤ length scores) where
         accepts : listsVerdict b items scores ≡ accepted
-        unfolding listsVerdict short listsM listsN
+        unfolding listsVerdict short
         accepts = rw (passes, ← m-is, ← n-is, le-ltb (length items) (m * n) items-room, le-ltb (length scores) (m * n) scores-room)
 
         pub lists-taken : {i s : List ℕ} → i ≡ over (row (everyFourth b (8 + 2 * m)) (m * n)) items → s ≡ over (row (everyFourth b (8 + 2 * m + 2)) (m * n)) scores → ListsAreRead b items scores (record { number = 0; m = m; n = n }) i s
-        unfolding readLists listsAnswer itemsAfter scoresAfter written entryItem entryScore listsM listsN
+        unfolding readLists listsAnswer itemsAfter scoresAfter written entryItem entryScore
         lists-taken i-is s-is =
             let shifted : row (everyFourth b (8 + 2 * m + 2)) (m * n) ≡ row (everyFourth b (10 + 2 * m)) (m * n) =
             row-same (everyFourth b (8 + 2 * m + 2)) (everyFourth b (10 + 2 * m)) (m * n)

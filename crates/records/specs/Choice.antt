@@ -1,16 +1,22 @@
--- The chosen part by its cases.
---     noPart                         the empty part
+-- The chosen part by its cases, and how long it is.
+--     noPart, housePart, ownPart     the empty part; the house weights of the lists; the query's own weights
 --     chosen-of-refused-query, chosen-of-refused-lists       either record is refused: the part is empty
 --     chosen-house, chosen-own       both pass: c = 0 takes the house weights, any other c the query's own
+--     house-length, own-length       the chosen part lies whole within its record
+--     other-count-refused            "Any other c hands on its own weights as well, and the search refuses them by 4"
 -- Assumes nothing.
-use mathlib.Core.Path.{_≡_, refl}
-use mathlib.Core.Bool.{cond}
+use mathlib.Core.Path.{_≡_, refl, ap, _∙_}
+use mathlib.Core.Bool.{true, cond, not, _||_}
 use mathlib.Core.List.{List}
-use Prim.Native.Nat.{ℕ, _*_}
+use Prim.Native.Nat.{ℕ, _+_, _-_, _*_, _≤_}
+use native.Mathlib.Omega.{arith}
 use lib.Dec.{eqb}
+use lib.ListN.{length, take, drop, length-drop}
+use lib.Seq.{length-take-le}
 use borrow.Author.Tests.{eq-eqb, ne-eqb}
-use Rattle.model.specs.Refusals.{accepted, refused}
-use Rattle.model.specs.Records.{byte, queryCount, queryHead, listsM, listsHead, Part, theQuery, theLists, chosenPart, choosing, chosen}
+use Rattle.model.specs.Refusals.{accepted, refused, wrongWeights}
+use Rattle.model.specs.Records.{queryCount, queryHead, listsM, listsN, listsHead, Part, theQuery, theLists, chosenPart, choosing, chosen, recordOf, partOf}
+use Rattle.records.specs.Heads.{query-held, lists-held}
 
 abbrev pub noPart : Part
 noPart = record { source = theQuery; start = 0; size = 0 }
@@ -21,7 +27,14 @@ housePart lists = record { source = theLists; start = 8; size = 2 * listsM lists
 abbrev pub ownPart : List ℕ → Part
 ownPart query = record { source = theQuery; start = 9; size = 2 * queryCount query }
 
+part-length : (b : List ℕ) (start size : ℕ) → start + size ≤ length b → length (take size (drop start b)) ≡ size
+part-length b start size h = length-take-le size (drop start b) (rw length-drop (omega arith))
+
 module _ (query lists : List ℕ) where
+  -- the weights as they go to a search
+  abbrev pub weightsOf : List ℕ
+  weightsOf = partOf (chosen query lists) query lists
+
   pub chosen-of-refused-query : {x i p : ℕ} → queryHead query ≡ refused x i p → chosen query lists ≡ noPart
   unfolding chosen choosing
   chosen-of-refused-query e = rw e
@@ -39,3 +52,18 @@ module _ (query lists : List ℕ) where
       pub chosen-own : (queryCount query ≡ 0 → ⊥) → chosen query lists ≡ ownPart query
       unfolding chosen choosing chosenPart
       chosen-own h = rw (query-passes, lists-pass, ne-eqb (queryCount query) 0 h)
+
+      pub house-length : queryCount query ≡ 0 → length weightsOf ≡ 2 * listsM lists
+      unfolding partOf recordOf
+      house-length e =
+          let whole = lists-held lists lists-pass .whole in
+          rw (chosen-house e) (part-length lists 8 (2 * listsM lists) (omega arith))
+
+      pub own-length : (queryCount query ≡ 0 → ⊥) → length weightsOf ≡ 2 * queryCount query
+      unfolding partOf recordOf
+      own-length h = rw (chosen-own h) (part-length query 9 (2 * queryCount query) (query-held query query-passes .weights-in))
+
+      pub other-count-refused : (queryCount query ≡ 0 → ⊥) → (queryCount query ≡ listsM lists → ⊥) → wrongWeights (listsM lists) weightsOf ≡ true
+      unfolding wrongWeights
+      other-count-refused h other =
+          rw (ne-eqb (length weightsOf) (2 * listsM lists) (λ e. other (omega (arith, own-length h))))

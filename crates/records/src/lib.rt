@@ -5,13 +5,14 @@ ghost use Prim.Native.Nat.{_+_, _≤_, _<_};
 ghost use lib.ListN.{length};
 ghost use Rattle.model.specs.Words.{row, over};
 ghost use Rattle.model.specs.Refusals.{pair};
-ghost use Rattle.model.specs.Records.{quad, queryHead, listsHead};
+ghost use Rattle.model.specs.Records.{quad, queryCount, queryHead, listsM, listsN, listsHead};
 ghost use Rattle.model.specs.Answers.{told};
 ghost use Rattle.records.specs.Contracts.{valueOfQuery, queryRefusal, valueOfLists, listsRefusal, everyFourth, Filling, QueryIsRead, ListsAreRead, WeightsChosen};
 
 // What the read of a query answers: a refusal's number with all else 0, or number 0 and the query.
-// `rule` is the record's own byte and `k` what a search counts with, so a caller hands both on as they are;
-// `c` and `bytes` count bytes of the input, and `&input[bytes..]` is what follows the record.
+// A caller hands `rule` and `k` on to a search with no cast: `rule` is the record's own byte, and `k` is a
+// `usize` as all that a search counts with. `c` counts weights and `bytes` the bytes taken, so that
+// `&input[bytes..]` is what follows the record.
 pub struct QueryRead {
     pub number: u32,
     pub rule: u8,
@@ -20,7 +21,8 @@ pub struct QueryRead {
     pub bytes: usize,
 }
 
-// What the read of lists answers: a refusal's number with all else 0, or number 0 and the sizes.
+// What the read of lists answers: a refusal's number with all else 0, or number 0 and the sizes, which a
+// caller hands on to a search with no cast.
 pub struct ListsRead {
     pub number: u32,
     pub m: usize,
@@ -41,7 +43,7 @@ fn pair_at(bytes: &[u8], at: usize) -> usize
     wide(bytes[at]) * 256 + wide(bytes[at + 1])
 }
 
-// A record's length, in its first four bytes. It reaches 2^32 - 1, so sums with it want more than 32 bits.
+// A record's length, in its first four bytes. It reaches 2^32 - 1, so sums with it are made in a `usize`.
 fn length_of(bytes: &[u8]) -> usize
     requires { ⌜ 4 ≤ length (now bytes) ⌝ }
     ensures { λ r. ⌜ r ≡ quad (now (bytes .entry)) 0 ⌝ }
@@ -49,8 +51,32 @@ fn length_of(bytes: &[u8]) -> usize
     pair_at(bytes, 0) * 65536 + pair_at(bytes, 2)
 }
 
+// How many weights a query record says that it has.
+fn query_count(bytes: &[u8]) -> usize
+    requires { ⌜ 9 ≤ length (now bytes) ⌝ }
+    ensures { λ r. ⌜ (r ≡ queryCount (now (bytes .entry))) × (r < 256) ⌝ }
+{
+    wide(bytes[8])
+}
+
+// How many lists a list record says that it has.
+fn lists_m(bytes: &[u8]) -> usize
+    requires { ⌜ 8 ≤ length (now bytes) ⌝ }
+    ensures { λ r. ⌜ (r ≡ listsM (now (bytes .entry))) × (r < 256) ⌝ }
+{
+    wide(bytes[5])
+}
+
+// How many items a list record says that it has.
+fn lists_n(bytes: &[u8]) -> usize
+    requires { ⌜ 8 ≤ length (now bytes) ⌝ }
+    ensures { λ r. ⌜ (r ≡ listsN (now (bytes .entry))) × (r < 65536) ⌝ }
+{
+    pair_at(bytes, 6)
+}
+
 // The tests of a query record: the number of the first that refuses, and 0 where none does.
-fn query_fault(bytes: &[u8]) -> u32
+fn query_head(bytes: &[u8]) -> u32
     ensures { λ r. ⌜ r ≡ told (queryHead (now (bytes .entry))) .number ⌝ }
 {
     if bytes.len() < 9 {
@@ -60,7 +86,7 @@ fn query_fault(bytes: &[u8]) -> u32
         return 12;
     }
     let length = length_of(bytes);
-    let count = wide(bytes[8]);
+    let count = query_count(bytes);
     if length != 5 + 2 * count {
         return 13;
     }
@@ -70,8 +96,9 @@ fn query_fault(bytes: &[u8]) -> u32
     0
 }
 
-// The tests of a list record but for the last, 6: the number of the first that refuses, and 0 where none does.
-fn lists_fault(bytes: &[u8]) -> u32
+// The tests of a list record but for its last, 6, which is of the slices: the number of the first that
+// refuses, and 0 where none does.
+fn lists_head(bytes: &[u8]) -> u32
     ensures { λ r. ⌜ r ≡ told (listsHead (now (bytes .entry))) .number ⌝ }
 {
     if bytes.len() < 8 {
@@ -84,8 +111,8 @@ fn lists_fault(bytes: &[u8]) -> u32
     if bytes[4] != 1 {
         return 12;
     }
-    let m = wide(bytes[5]);
-    let n = pair_at(bytes, 6);
+    let m = lists_m(bytes);
+    let n = lists_n(bytes);
     if lists::wrong_size(m, n) {
         return 1;
     }
@@ -108,16 +135,16 @@ fn query_refused(number: u32) -> QueryRead
     }
 }
 
-// Reads a query record from the start of `bytes`; others may follow it.
+// Reads the query record that stands at the start of `bytes`; other records may follow it.
 pub fn read_query(bytes: &[u8]) -> QueryRead
     ensures { λ r. ⌜ QueryIsRead (now (bytes .entry)) r ⌝ }
 {
-    let number = query_fault(bytes);
+    let number = query_head(bytes);
     if number != 0 {
         return query_refused(number);
     }
     let k = pair_at(bytes, 6);
-    let c = wide(bytes[8]);
+    let c = query_count(bytes);
     QueryRead {
         number: 0,
         rule: bytes[5],
@@ -127,7 +154,18 @@ pub fn read_query(bytes: &[u8]) -> QueryRead
     }
 }
 
-// Puts one half of `size` entries, the pairs at `from`, `from` + 4, .., into the first places.
+// A refused read of lists answers the number alone.
+fn lists_refused(number: u32) -> ListsRead
+    ensures { λ r. ⌜ valueOfLists r ≡ listsRefusal number ⌝ }
+{
+    ListsRead {
+        number,
+        m: 0,
+        n: 0,
+    }
+}
+
+// Fills the first `size` places with one half of the entries: the pairs at `from`, `from` + 4, and so on.
 fn fill(bytes: &[u8], from: usize, size: usize, slice: &mut [u16])
     requires { ⌜ Filling (now bytes) from size (now slice) ⌝ }
     ensures { λ _. ⌜ now (slice .exit) ≡ over (row (everyFourth (now (bytes .entry)) from) size) (now (slice .entry)) ⌝ }
@@ -140,23 +178,17 @@ fn fill(bytes: &[u8], from: usize, size: usize, slice: &mut [u16])
     }
 }
 
-// A refused read of lists answers the number alone.
-fn lists_refused(number: u32) -> ListsRead
-    ensures { λ r. ⌜ valueOfLists r ≡ listsRefusal number ⌝ }
-{
-    ListsRead { number, m: 0, n: 0 }
-}
-
-// Reads a list record, which is all of `bytes`, into an item slice and a score slice.
+// Reads the list record that `bytes` is into an item slice and a score slice. Entries past m x n stay as
+// lent, and so do both slices where the read is refused.
 pub fn read_lists(bytes: &[u8], items: &mut [u16], scores: &mut [u16]) -> ListsRead
     ensures { λ r. ⌜ ListsAreRead (now (bytes .entry)) (now (items .entry)) (now (scores .entry)) r (now (items .exit)) (now (scores .exit)) ⌝ }
 {
-    let number = lists_fault(bytes);
+    let number = lists_head(bytes);
     if number != 0 {
         return lists_refused(number);
     }
-    let m = wide(bytes[5]);
-    let n = pair_at(bytes, 6);
+    let m = lists_m(bytes);
+    let n = lists_n(bytes);
     let size = m * n;
     if items.len() < size {
         return lists_refused(6);
@@ -167,25 +199,29 @@ pub fn read_lists(bytes: &[u8], items: &mut [u16], scores: &mut [u16]) -> ListsR
     let start = 8 + 2 * m;
     fill(bytes, start, size, items);
     fill(bytes, start + 2, size, scores);
-    ListsRead { number: 0, m, n }
+    ListsRead {
+        number: 0,
+        m,
+        n,
+    }
 }
 
-// The weights of a query: those of its own record, or where it has none the house weights of the list record.
-// It is a part of the one record or the other, uncopied, and empty where a read refuses either.
+// The weights that a query is to be searched with: its own, or where it has none the house weights of the
+// lists. They are a part of the one record or the other, uncopied, and empty where a read refuses either.
 pub fn chosen_weights<'a>(query: &'a [u8], lists: &'a [u8]) -> &'a [u8]
     ensures { λ r. ⌜ WeightsChosen (query .entry) (lists .entry) r ⌝ }
 {
-    if query_fault(query) != 0 {
+    if query_head(query) != 0 {
         return &query[0..0];
     }
-    if lists_fault(lists) != 0 {
+    if lists_head(lists) != 0 {
         return &query[0..0];
     }
-    let c = wide(query[8]);
-    if c == 0 {
-        let end = 8 + 2 * wide(lists[5]);
+    let count = query_count(query);
+    if count == 0 {
+        let end = 8 + 2 * lists_m(lists);
         return &lists[8..end];
     }
-    let end = 9 + 2 * c;
+    let end = 9 + 2 * count;
     &query[9..end]
 }

@@ -10,7 +10,7 @@ use mathlib.Core.List.{List}
 use Prim.Native.Nat.{ℕ, _+_, _-_, _*_, _≤_, _<_}
 use lib.ListN.{length}
 use borrow.Author.Tests.{lt-ltb, le-ltb, eq-eqb, ne-eqb}
-use Rattle.model.specs.Refusals.{Verdict, accepted, refused, pair, wrongSize}
+use Rattle.model.specs.Refusals.{Verdict, accepted, refused, wrongSize}
 use Rattle.model.specs.Records.{byte, quad, queryCount, queryHead, listsM, listsN, listsHead}
 use Rattle.model.specs.Answers.{told}
 
@@ -28,19 +28,19 @@ module _ (b : List ℕ) where
     unfolding queryHead
     query-12 h = rw (le-ltb (length b) 9 head, ne-eqb (byte b 4) 1 h)
 
-    module _ (version : byte b 4 ≡ 1) {l k : ℕ} (l-is : l ≡ quad b 0) (k-is : k ≡ byte b 8) where
+    module _ (version : byte b 4 ≡ 1) {l k : ℕ} (l-is : l ≡ quad b 0) (k-is : k ≡ queryCount b) where
       pub query-13 : (l ≡ 5 + 2 * k → ⊥) → Answers 13 (queryHead b)
-      unfolding queryHead queryCount
+      unfolding queryHead
       query-13 h = rw (le-ltb (length b) 9 head, eq-eqb (byte b 4) 1 version, ← l-is, ← k-is, ne-eqb l (5 + 2 * k) h)
 
       module _ (counts : l ≡ 5 + 2 * k) where
         pub query-11 : length b - 4 < l → Answers 11 (queryHead b)
-        unfolding queryHead queryCount
+        unfolding queryHead
         query-11 h =
             rw (le-ltb (length b) 9 head, eq-eqb (byte b 4) 1 version, ← l-is, ← k-is, eq-eqb l (5 + 2 * k) counts, lt-ltb (length b - 4) l h)
 
         pub query-passes : l ≤ length b - 4 → Answers 0 (queryHead b)
-        unfolding queryHead queryCount
+        unfolding queryHead
         query-passes h =
             rw (le-ltb (length b) 9 head, eq-eqb (byte b 4) 1 version, ← l-is, ← k-is, eq-eqb l (5 + 2 * k) counts, le-ltb (length b - 4) l h)
 
@@ -58,21 +58,21 @@ module _ (b : List ℕ) where
       unfolding listsHead
       lists-12 h = rw (le-ltb (length b) 8 head, ← l-is, eq-eqb l (length b - 4) ends, ne-eqb (byte b 4) 1 h)
 
-      module _ (version : byte b 4 ≡ 1) {m n : ℕ} (m-is : m ≡ byte b 5) (n-is : n ≡ pair b 6) where
+      module _ (version : byte b 4 ≡ 1) {m n : ℕ} (m-is : m ≡ listsM b) (n-is : n ≡ listsN b) where
         pub lists-1 : wrongSize m n ≡ true → Answers 1 (listsHead b)
-        unfolding listsHead listsM listsN
+        unfolding listsHead
         lists-1 h =
             rw (le-ltb (length b) 8 head, ← l-is, eq-eqb l (length b - 4) ends, eq-eqb (byte b 4) 1 version, ← m-is, ← n-is, h)
 
         module _ (sized : wrongSize m n ≡ false) where
           pub lists-13 : (l ≡ 4 + 2 * m + 4 * (m * n) → ⊥) → Answers 13 (listsHead b)
-          unfolding listsHead listsM listsN
+          unfolding listsHead
           lists-13 h =
               rw (le-ltb (length b) 8 head, ← l-is, eq-eqb l (length b - 4) ends, eq-eqb (byte b 4) 1 version, ← m-is, ← n-is, sized)
               (rw (ne-eqb l (4 + 2 * m + 4 * (m * n)) h))
 
           pub lists-passes : l ≡ 4 + 2 * m + 4 * (m * n) → Answers 0 (listsHead b)
-          unfolding listsHead listsM listsN
+          unfolding listsHead
           lists-passes h =
               rw (le-ltb (length b) 8 head, ← l-is, eq-eqb l (length b - 4) ends, eq-eqb (byte b 4) 1 version, ← m-is, ← n-is, sized)
               (rw (eq-eqb l (4 + 2 * m + 4 * (m * n)) h))
