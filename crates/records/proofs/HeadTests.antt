@@ -4,13 +4,13 @@
 -- Each takes what the tests before it left. What the code has read (`l` a length, `k` a count, `m` and `n` the sizes) comes with
 -- what it is of the record.
 -- Assumes nothing.
-use mathlib.Core.Path.{_≡_, refl, sym, ap, _∙_}
-use mathlib.Core.Bool.{Bool, true, false}
+use mathlib.Core.Path.{_≡_, refl}
+use mathlib.Core.Bool.{true, false}
 use mathlib.Core.List.{List}
 use Prim.Native.Nat.{ℕ, _+_, _-_, _*_, _≤_, _<_}
 use lib.ListN.{length}
 use borrow.Author.Tests.{lt-ltb, le-ltb, eq-eqb, ne-eqb}
-use Rattle.model.specs.Refusals.{Verdict, accepted, refused, wrongSize}
+use Rattle.model.specs.Refusals.{Verdict, wrongSize}
 use Rattle.model.specs.Records.{byte, quad, queryCount, queryHead, listsM, listsN, listsHead}
 use Rattle.model.specs.Answers.{told}
 

@@ -1,10 +1,13 @@
 -- What the two reads promise, in each of their ways out.
---     query-refused, query-taken                     a query that is refused, that is read
---     lists-refused, items-short, scores-short, lists-taken      lists that are refused by their head, by 6, that are read
---     fill-more                                      one entry more in a slice that is filled from its start
+--     query-refused, query-taken     a query that is refused; that is read
+--     fill-more                      one entry more in a slice that is filled from its start
+--     Sizes, sizes-read              what is known of the sizes once they are read
+--     lists-refused                  lists that are refused by their head
+--     items-short, scores-short      that are refused by 6
+--     lists-taken                    that are read
 -- Assumes nothing.
 use mathlib.Core.Path.{_≡_, refl, sym, ap, _∙_}
-use mathlib.Core.Bool.{Bool, true, false, _||_, or-true}
+use mathlib.Core.Bool.{_||_}
 use mathlib.Core.List.{List, [], _∷_, _++_}
 use Prim.Native.Nat.{ℕ, suc, _+_, _*_, _≤_, _<_}
 use native.Mathlib.Numerals.{add-one}

@@ -1,8 +1,8 @@
 -- What a record keeps that passes its tests, and that a refusal of one is never numbered 0.
 --     refused-by                         told by a number other than 0: refused by it
 --     query-accepted, lists-accepted     told by 0: accepted
---     QueryHeld, query-held          a query record that passes: its head and its weights lie within the bytes
---     ListsHeld, lists-held          a list record that passes: its sizes, and the bytes are the record
+--     QueryHeld, query-held              a query record that passes: its head and its weights lie within the bytes
+--     ListsHeld, lists-held              a list record that passes: its sizes, and the bytes are the record
 -- Assumes nothing.
 use mathlib.Core.Path.{_≡_, refl, sym, ap, _∙_}
 use mathlib.Core.Bool.{Bool, true, false, not}
@@ -33,15 +33,22 @@ refused-by (refused y i p) e bad f = f i p (ap (λ (z : ℕ). refused z i p) (sy
 
 -- ---- a query record
 module _ (b : List ℕ) where
-  abbrev past-head : Verdict
-  past-head = 13 when not (eqb (quad b 0) (5 + 2 * queryCount b)) then 11 when ltb (length b - 4) (quad b 0)
+  -- its tests from the second, the third and the fourth on
+  abbrev query-from-11 : Verdict
+  query-from-11 = 11 when ltb (length b - 4) (quad b 0)
+
+  abbrev query-from-13 : Verdict
+  query-from-13 = 13 when not (eqb (quad b 0) (5 + 2 * queryCount b)) then query-from-11
+
+  abbrev query-from-12 : Verdict
+  query-from-12 = 12 when not (eqb (byte b 4) 1) then query-from-13
 
   pub numbered-query : Numbered (queryHead b)
   unfolding queryHead
   numbered-query =
-      numbered-test 10 (ltb (length b) 9) (12 when not (eqb (byte b 4) 1) then past-head) (omega arith)
-      (numbered-test 12 (not (eqb (byte b 4) 1)) past-head (omega arith)
-      (numbered-test 13 (not (eqb (quad b 0) (5 + 2 * queryCount b))) (11 when ltb (length b - 4) (quad b 0)) (omega arith)
+      numbered-test 10 (ltb (length b) 9) query-from-12 (omega arith)
+      (numbered-test 12 (not (eqb (byte b 4) 1)) query-from-13 (omega arith)
+      (numbered-test 13 (not (eqb (quad b 0) (5 + 2 * queryCount b))) query-from-11 (omega arith)
       (numbered-when 11 (ltb (length b - 4) (quad b 0)) (omega arith))))
 
   pub query-accepted : {x : ℕ} → x ≡ told (queryHead b) .number → x ≡ 0 → queryHead b ≡ accepted
@@ -55,32 +62,42 @@ module _ (b : List ℕ) where
   pub query-held : queryHead b ≡ accepted → QueryHeld
   unfolding queryHead
   query-held e =
-      let after-10 = when-then 10 (ltb (length b) 9) (12 when not (eqb (byte b 4) 1) then past-head) e in
-      let after-12 = when-then 12 (not (eqb (byte b 4) 1)) past-head (after-10 .1) in
-      let after-13 = when-then 13 (not (eqb (quad b 0) (5 + 2 * queryCount b))) (11 when ltb (length b - 4) (quad b 0)) (after-12 .1) in
+      let says = 5 + 2 * queryCount b in
+      let after-10 = when-then 10 (ltb (length b) 9) query-from-12 e in
+      let after-12 = when-then 12 (not (eqb (byte b 4) 1)) query-from-13 (after-10 .1) in
+      let after-13 = when-then 13 (not (eqb (quad b 0) says)) query-from-11 (after-12 .1) in
       let head : 9 ≤ length b = ltb-false (length b) 9 (after-10 .0) in
-      let counts = eqb-true (quad b 0) (5 + 2 * queryCount b) (not-false (eqb (quad b 0) (5 + 2 * queryCount b)) (after-13 .0)) in
+      let counts = eqb-true (quad b 0) says (not-false (eqb (quad b 0) says) (after-13 .0)) in
       let ends = ltb-false (length b - 4) (quad b 0) (when-passes 11 (ltb (length b - 4) (quad b 0)) (after-13 .1)) in
       record { head-in = head; weights-in = omega arith }
 
 -- ---- a list record
 module _ (b : List ℕ) where
-  abbrev past-version : Verdict
-  past-version =
-      1 when wrongSize (listsM b) (listsN b)
-      then 13 when not (eqb (quad b 0) (4 + 2 * listsM b + 4 * (listsM b * listsN b)))
+  -- the length that its counts say
+  abbrev says : ℕ
+  says = 4 + 2 * listsM b + 4 * (listsM b * listsN b)
 
-  abbrev past-first : Verdict
-  past-first = 11 when not (eqb (quad b 0) (length b - 4)) then 12 when not (eqb (byte b 4) 1) then past-version
+  -- its tests from the second on, and so to the last
+  abbrev lists-from-13 : Verdict
+  lists-from-13 = 13 when not (eqb (quad b 0) says)
+
+  abbrev lists-from-1 : Verdict
+  lists-from-1 = 1 when wrongSize (listsM b) (listsN b) then lists-from-13
+
+  abbrev lists-from-12 : Verdict
+  lists-from-12 = 12 when not (eqb (byte b 4) 1) then lists-from-1
+
+  abbrev lists-from-11 : Verdict
+  lists-from-11 = 11 when not (eqb (quad b 0) (length b - 4)) then lists-from-12
 
   pub numbered-lists : Numbered (listsHead b)
   unfolding listsHead
   numbered-lists =
-      numbered-test 10 (ltb (length b) 8) past-first (omega arith)
-      (numbered-test 11 (not (eqb (quad b 0) (length b - 4))) (12 when not (eqb (byte b 4) 1) then past-version) (omega arith)
-      (numbered-test 12 (not (eqb (byte b 4) 1)) past-version (omega arith)
-      (numbered-test 1 (wrongSize (listsM b) (listsN b)) (13 when not (eqb (quad b 0) (4 + 2 * listsM b + 4 * (listsM b * listsN b)))) (omega arith)
-      (numbered-when 13 (not (eqb (quad b 0) (4 + 2 * listsM b + 4 * (listsM b * listsN b)))) (omega arith)))))
+      numbered-test 10 (ltb (length b) 8) lists-from-11 (omega arith)
+      (numbered-test 11 (not (eqb (quad b 0) (length b - 4))) lists-from-12 (omega arith)
+      (numbered-test 12 (not (eqb (byte b 4) 1)) lists-from-1 (omega arith)
+      (numbered-test 1 (wrongSize (listsM b) (listsN b)) lists-from-13 (omega arith)
+      (numbered-when 13 (not (eqb (quad b 0) says)) (omega arith)))))
 
   pub lists-accepted : {x : ℕ} → x ≡ told (listsHead b) .number → x ≡ 0 → listsHead b ≡ accepted
   lists-accepted e none = told-zero (listsHead b) numbered-lists (sym e ∙ none)
@@ -93,11 +110,10 @@ module _ (b : List ℕ) where
   pub lists-held : listsHead b ≡ accepted → ListsHeld
   unfolding listsHead
   lists-held e =
-      let says = 4 + 2 * listsM b + 4 * (listsM b * listsN b) in
-      let after-10 = when-then 10 (ltb (length b) 8) past-first e in
-      let after-11 = when-then 11 (not (eqb (quad b 0) (length b - 4))) (12 when not (eqb (byte b 4) 1) then past-version) (after-10 .1) in
-      let after-12 = when-then 12 (not (eqb (byte b 4) 1)) past-version (after-11 .1) in
-      let after-1 = when-then 1 (wrongSize (listsM b) (listsN b)) (13 when not (eqb (quad b 0) says)) (after-12 .1) in
+      let after-10 = when-then 10 (ltb (length b) 8) lists-from-11 e in
+      let after-11 = when-then 11 (not (eqb (quad b 0) (length b - 4))) lists-from-12 (after-10 .1) in
+      let after-12 = when-then 12 (not (eqb (byte b 4) 1)) lists-from-1 (after-11 .1) in
+      let after-1 = when-then 1 (wrongSize (listsM b) (listsN b)) lists-from-13 (after-12 .1) in
       let head : 8 ≤ length b = ltb-false (length b) 8 (after-10 .0) in
       let ends = eqb-true (quad b 0) (length b - 4) (not-false (eqb (quad b 0) (length b - 4)) (after-11 .0)) in
       let counts = eqb-true (quad b 0) says (not-false (eqb (quad b 0) says) (when-passes 13 (not (eqb (quad b 0) says)) (after-1 .1))) in

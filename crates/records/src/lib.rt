@@ -158,11 +158,7 @@ pub fn read_query(bytes: &[u8]) -> QueryRead
 fn lists_refused(number: u32) -> ListsRead
     ensures { λ r. ⌜ valueOfLists r ≡ listsRefusal number ⌝ }
 {
-    ListsRead {
-        number,
-        m: 0,
-        n: 0,
-    }
+    ListsRead { number, m: 0, n: 0 }
 }
 
 // Fills the first `size` places with one half of the entries: the pairs at `from`, `from` + 4, and so on.
@@ -199,11 +195,7 @@ pub fn read_lists(bytes: &[u8], items: &mut [u16], scores: &mut [u16]) -> ListsR
     let start = 8 + 2 * m;
     fill(bytes, start, size, items);
     fill(bytes, start + 2, size, scores);
-    ListsRead {
-        number: 0,
-        m,
-        n,
-    }
+    ListsRead { number: 0, m, n }
 }
 
 // The weights that a query is to be searched with: its own, or where it has none the house weights of the

@@ -1,17 +1,13 @@
-use native.Mathlib.Omega.{arith}
-use borrow.Author.Needs.{needs}
+-- `records::lists_head` meets its contract: at each way out the tests before it have passed (`HeadTests`). That m x n fits is known
+-- from test 1, which comes before the length is computed.
+-- Assumes nothing.
 use mathlib.Core.Path.{_≡_, sym, _∙_}
 use Prim.Native.Nat.{_*_, _≤_}
+use native.Mathlib.Omega.{arith}
 use Rattle.laws.specs.Accepted.{sized, size-fits}
 use Rattle.records.proofs.HeadTests.{lists-10, lists-11, lists-12, lists-1, lists-13, lists-passes}
 use Rattle.records.proofs.lists_head.Statement.{statement}
 use Rattle.records.proofs.lists_head.Tie as tie
-use Rattle.records.proofs.lists_head.Reads as reads
-use Rattle.records.proofs.lists_head.Lts as lts
-use Rattle.lists.proofs.wrong_size.Reads as wrong-size-reads
-use Rattle.records.proofs.length_of.Reads as length-of-reads
-use Rattle.records.proofs.lists_m.Reads as lists-m-reads
-use Rattle.records.proofs.lists_n.Reads as lists-n-reads
 
 -- the sizes passed test 1
 size-small : (c : tie.Else4) → (c .before .before .before) .lists-m .result * (c .before .before) .lists-n .result ≤ 8192
@@ -22,59 +18,59 @@ size-small c =
     size-fits (sized m n (sym (after-size .wrong-size .ensures) ∙ c .if4 .left))
 
 returns : tie.Need-returns
-returns c = lists-10 ((c .before .before) .args .bytes .now) (c .if1 .taken)
+returns c = lists-10 (c .before .before .args .bytes .now) (c .if1 .taken)
 
 length-of-requires : tie.Need-length-of-requires
-length-of-requires c κs = search needs
+length-of-requires c κs = omega arith
 
 sub-if2 : tie.Need-sub-if2
-sub-if2 c = search needs
+sub-if2 c = omega arith
 
 returns-2 : tie.Need-returns-2
 returns-2 c =
-    let b = (c .before .before .before .before) .args .bytes .now in
-    let else1 = (c .before .before) in
-    let after-length = (c .before) in
+    let b = c .before .before .before .before .args .bytes .now in
+    let else1 = c .before .before in
+    let after-length = c .before in
     lists-11 b (else1 .if1 .left) (after-length .length-of .ensures) (c .if2 .taken)
 
 shared-slice-read-if3 : tie.Need-shared-slice-read-if3
-shared-slice-read-if3 c = search needs
+shared-slice-read-if3 c = omega arith
 
 returns-3 : tie.Need-returns-3
 returns-3 c =
-    let b = (c .before .before .before .before .before .before) .args .bytes .now in
-    let else1 = (c .before .before .before .before) in
-    let after-length = (c .before .before .before) in
-    let else2 = (c .before .before) in
+    let b = c .before .before .before .before .before .before .args .bytes .now in
+    let else1 = c .before .before .before .before in
+    let after-length = c .before .before .before in
+    let else2 = c .before .before in
     lists-12 b (else1 .if1 .left) (after-length .length-of .ensures) (else2 .if2 .left) (c .if3 .taken)
 
 lists-m-requires : tie.Need-lists-m-requires
-lists-m-requires c κs = search needs
+lists-m-requires c κs = omega arith
 
 lists-n-requires : tie.Need-lists-n-requires
-lists-n-requires c κs = search needs
+lists-n-requires c κs = omega arith
 
 wrong-size-requires : tie.Need-wrong-size-requires
-wrong-size-requires c κs = search needs
+wrong-size-requires c κs = tt
 
 returns-4 : tie.Need-returns-4
 returns-4 c =
-    let b = (c .before .before .before .before .before .before .before .before .before .before) .args .bytes .now in
-    let else1 = (c .before .before .before .before .before .before .before .before) in
-    let after-length = (c .before .before .before .before .before .before .before) in
-    let else2 = (c .before .before .before .before .before .before) in
-    let else3 = (c .before .before .before .before) in
-    let after-m = (c .before .before .before) in
-    let after-n = (c .before .before) in
-    let after-size = (c .before) in
+    let b = c .before .before .before .before .before .before .before .before .before .before .args .bytes .now in
+    let else1 = c .before .before .before .before .before .before .before .before in
+    let after-length = c .before .before .before .before .before .before .before in
+    let else2 = c .before .before .before .before .before .before in
+    let else3 = c .before .before .before .before in
+    let after-m = c .before .before .before in
+    let after-n = c .before .before in
+    let after-size = c .before in
     lists-1 b (else1 .if1 .left) (after-length .length-of .ensures) (else2 .if2 .left) (else3 .if3 .left)
     (after-m .lists-m .ensures .0) (after-n .lists-n .ensures .0) (sym (after-size .wrong-size .ensures) ∙ c .if4 .taken)
 
 mul-if5 : tie.Need-mul-if5
-mul-if5 c = search needs
+mul-if5 c = omega arith
 
 add-if5 : tie.Need-add-if5
-add-if5 c = search needs
+add-if5 c = omega arith
 
 mul-if5-2 : tie.Need-mul-if5-2
 mul-if5-2 c = omega (arith, size-small c)
@@ -87,29 +83,29 @@ add-if5-2 c = omega (arith, size-small c)
 
 returns-5 : tie.Need-returns-5
 returns-5 c =
-    let b = (c .before .before .before .before .before .before .before .before .before .before .before) .args .bytes .now in
-    let else1 = (c .before .before .before .before .before .before .before .before .before) in
-    let after-length = (c .before .before .before .before .before .before .before .before) in
-    let else2 = (c .before .before .before .before .before .before .before) in
-    let else3 = (c .before .before .before .before .before) in
-    let after-m = (c .before .before .before .before) in
-    let after-n = (c .before .before .before) in
-    let after-size = (c .before .before) in
+    let b = c .before .before .before .before .before .before .before .before .before .before .before .args .bytes .now in
+    let else1 = c .before .before .before .before .before .before .before .before .before in
+    let after-length = c .before .before .before .before .before .before .before .before in
+    let else2 = c .before .before .before .before .before .before .before in
+    let else3 = c .before .before .before .before .before in
+    let after-m = c .before .before .before .before in
+    let after-n = c .before .before .before in
+    let after-size = c .before .before in
     lists-13 b (else1 .if1 .left) (after-length .length-of .ensures) (else2 .if2 .left) (else3 .if3 .left)
-    (after-m .lists-m .ensures .0) (after-n .lists-n .ensures .0) (sym (after-size .wrong-size .ensures) ∙ (c .before) .if4 .left) (c .if5 .taken)
+    (after-m .lists-m .ensures .0) (after-n .lists-n .ensures .0) (sym (after-size .wrong-size .ensures) ∙ c .before .if4 .left) (c .if5 .taken)
 
 returns-6 : tie.Need-returns-6
 returns-6 c =
-    let b = (c .before .before .before .before .before .before .before .before .before .before .before) .args .bytes .now in
-    let else1 = (c .before .before .before .before .before .before .before .before .before) in
-    let after-length = (c .before .before .before .before .before .before .before .before) in
-    let else2 = (c .before .before .before .before .before .before .before) in
-    let else3 = (c .before .before .before .before .before) in
-    let after-m = (c .before .before .before .before) in
-    let after-n = (c .before .before .before) in
-    let after-size = (c .before .before) in
+    let b = c .before .before .before .before .before .before .before .before .before .before .before .args .bytes .now in
+    let else1 = c .before .before .before .before .before .before .before .before .before in
+    let after-length = c .before .before .before .before .before .before .before .before in
+    let else2 = c .before .before .before .before .before .before .before in
+    let else3 = c .before .before .before .before .before in
+    let after-m = c .before .before .before .before in
+    let after-n = c .before .before .before in
+    let after-size = c .before .before in
     lists-passes b (else1 .if1 .left) (after-length .length-of .ensures) (else2 .if2 .left) (else3 .if3 .left)
-    (after-m .lists-m .ensures .0) (after-n .lists-n .ensures .0) (sym (after-size .wrong-size .ensures) ∙ (c .before) .if4 .left) (c .if5 .left)
+    (after-m .lists-m .ensures .0) (after-n .lists-n .ensures .0) (sym (after-size .wrong-size .ensures) ∙ c .before .if4 .left) (c .if5 .left)
 
 pub lists-head-spec : {M : Type 1} → statement M
 lists-head-spec =

