@@ -40,7 +40,9 @@ fn pair_at(bytes: &[u8], at: usize) -> usize
     requires { ⌜ at + 1 < length (now bytes) ⌝ }
     ensures { λ r. ⌜ (r ≡ pair (now (bytes .entry)) at) × (r < 65536) ⌝ }
 {
-    wide(bytes[at]) * 256 + wide(bytes[at + 1])
+    let high = wide(bytes[at]);
+    let low = wide(bytes[at + 1]);
+    high * 256 + low
 }
 
 // A record's length, in its first four bytes. It reaches 2^32 - 1, so sums with it are made in a `usize`.
@@ -52,45 +54,46 @@ fn length_of(bytes: &[u8]) -> usize
 }
 
 // How many weights a query record says that it has.
-fn query_count(bytes: &[u8]) -> usize
-    requires { ⌜ 9 ≤ length (now bytes) ⌝ }
-    ensures { λ r. ⌜ (r ≡ queryCount (now (bytes .entry))) × (r < 256) ⌝ }
+fn query_count(query: &[u8]) -> usize
+    requires { ⌜ 9 ≤ length (now query) ⌝ }
+    ensures { λ r. ⌜ (r ≡ queryCount (now (query .entry))) × (r < 256) ⌝ }
 {
-    wide(bytes[8])
+    wide(query[8])
 }
 
 // How many lists a list record says that it has.
-fn lists_m(bytes: &[u8]) -> usize
-    requires { ⌜ 8 ≤ length (now bytes) ⌝ }
-    ensures { λ r. ⌜ (r ≡ listsM (now (bytes .entry))) × (r < 256) ⌝ }
+fn lists_m(lists: &[u8]) -> usize
+    requires { ⌜ 8 ≤ length (now lists) ⌝ }
+    ensures { λ r. ⌜ (r ≡ listsM (now (lists .entry))) × (r < 256) ⌝ }
 {
-    wide(bytes[5])
+    wide(lists[5])
 }
 
 // How many items a list record says that it has.
-fn lists_n(bytes: &[u8]) -> usize
-    requires { ⌜ 8 ≤ length (now bytes) ⌝ }
-    ensures { λ r. ⌜ (r ≡ listsN (now (bytes .entry))) × (r < 65536) ⌝ }
+fn lists_n(lists: &[u8]) -> usize
+    requires { ⌜ 8 ≤ length (now lists) ⌝ }
+    ensures { λ r. ⌜ (r ≡ listsN (now (lists .entry))) × (r < 65536) ⌝ }
 {
-    pair_at(bytes, 6)
+    pair_at(lists, 6)
 }
 
 // The tests of a query record: the number of the first that refuses, and 0 where none does.
-fn query_head(bytes: &[u8]) -> u32
-    ensures { λ r. ⌜ r ≡ told (queryHead (now (bytes .entry))) .number ⌝ }
+fn query_head(query: &[u8]) -> u32
+    ensures { λ r. ⌜ r ≡ told (queryHead (now (query .entry))) .number ⌝ }
 {
-    if bytes.len() < 9 {
+    if query.len() < 9 {
         return 10;
     }
-    if bytes[4] != 1 {
+    let rest = query.len() - 4;
+    let length = length_of(query);
+    let counted = 5 + 2 * query_count(query);
+    if query[4] != 1 {
         return 12;
     }
-    let length = length_of(bytes);
-    let count = query_count(bytes);
-    if length != 5 + 2 * count {
+    if length != counted {
         return 13;
     }
-    if bytes.len() - 4 < length {
+    if rest < length {
         return 11;
     }
     0
@@ -98,25 +101,27 @@ fn query_head(bytes: &[u8]) -> u32
 
 // The tests of a list record but for its last, 6, which is of the slices: the number of the first that
 // refuses, and 0 where none does.
-fn lists_head(bytes: &[u8]) -> u32
-    ensures { λ r. ⌜ r ≡ told (listsHead (now (bytes .entry))) .number ⌝ }
+fn lists_head(lists: &[u8]) -> u32
+    ensures { λ r. ⌜ r ≡ told (listsHead (now (lists .entry))) .number ⌝ }
 {
-    if bytes.len() < 8 {
+    if lists.len() < 8 {
         return 10;
     }
-    let length = length_of(bytes);
-    if length != bytes.len() - 4 {
+    let rest = lists.len() - 4;
+    let length = length_of(lists);
+    if length != rest {
         return 11;
     }
-    if bytes[4] != 1 {
+    if lists[4] != 1 {
         return 12;
     }
-    let m = lists_m(bytes);
-    let n = lists_n(bytes);
+    let m = lists_m(lists);
+    let n = lists_n(lists);
     if lists::wrong_size(m, n) {
         return 1;
     }
-    if length != 4 + 2 * m + 4 * (m * n) {
+    let counted = 4 + 2 * m + 4 * (m * n);
+    if length != counted {
         return 13;
     }
     0

@@ -12,9 +12,6 @@ shared-slice-read-wide c = omega arith
 wide-requires : tie.Need-wide-requires
 wide-requires c κs = tt
 
-mul-result : tie.Need-mul-result
-mul-result c = omega arith
-
 add-wide : tie.Need-add-wide
 add-wide c = omega arith
 
@@ -23,6 +20,9 @@ shared-slice-read-wide-2 c = omega arith
 
 wide-requires-2 : tie.Need-wide-requires-2
 wide-requires-2 c κs = tt
+
+mul-result : tie.Need-mul-result
+mul-result c = omega arith
 
 add-result : tie.Need-add-result
 add-result c = omega arith
@@ -37,9 +37,9 @@ pair-at-spec =
     (tie.spec
     shared-slice-read-wide
     wide-requires
-    mul-result
     add-wide
     shared-slice-read-wide-2
     wide-requires-2
+    mul-result
     add-result
     returns)
