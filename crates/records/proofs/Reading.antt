@@ -19,7 +19,7 @@ use Rattle.model.specs.Words.{row, over}
 use Rattle.model.specs.Refusals.{accepted, refused, pair, short}
 use Rattle.model.specs.Answers.{told, written}
 use Rattle.model.specs.Records.{byte, queryRule, queryK, queryCount, queryHead, queryAnswer, readQuery, listsM, listsN, entryItem, entryScore, listsHead, listsVerdict, listsAnswer, readLists, itemsAfter, scoresAfter}
-use Rattle.laws.specs.Lists.{row-length, row-same}
+use Rattle.laws.specs.Lists.{row-length}
 use Rattle.laws.specs.Accepted.{size-fits}
 use Rattle.records.specs.declared.QueryRead.{QueryRead}
 use Rattle.records.specs.declared.ListsRead.{ListsRead}
@@ -33,21 +33,26 @@ module _ (b : List ℕ) where
   query-refused {x} e bad says =
       refused-by (queryHead b) e bad (λ i p (refuses : queryHead b ≡ refused x i p). record { answers = rw refuses says })
 
-  pub query-taken : (k c : ℕ) → queryHead b ≡ accepted → k ≡ pair b 6 → c ≡ queryCount b → QueryIsRead b (record { number = 0; rule = byte b 5; k = k; c = c; bytes = 9 + 2 * c })
+  -- the answer of a query that is read, from its k and its count
+  abbrev pub queryOf : ℕ → ℕ → QueryRead
+  queryOf k c = record { number = 0; rule = byte b 5; k = k; c = c; bytes = 9 + 2 * c }
+
+  pub query-taken : (k c : ℕ) → queryHead b ≡ accepted → k ≡ pair b 6 → c ≡ queryCount b → QueryIsRead b (queryOf k c)
   unfolding readQuery queryAnswer queryRule queryK
   query-taken k c passes k-is c-is = record { answers = rw (passes, k-is, c-is) }
 
 -- ---- a slice that is filled from its start
-pub fill-more : (f : ℕ → ℕ) (j : ℕ) (lent : List ℕ) → j < length lent → set (over (row f j) lent) j (f j) ≡ over (row f (j + 1)) lent
-unfolding over row
-fill-more f j lent h =
-    rw (add-one j, length-append, row-length f j)
-    (ap (λ (l : List ℕ). set (row f j ++ l) j (f j)) (drop-cons lent j 0 h)
-    ∙ set-at (row f j) (getD lent j 0) (drop (suc j) lent) (f j) j (row-length f j)
-    ∙ rw (add-one j) (sym (append-snoc (row f j) (f j) (drop (suc j) lent))))
+module _ (f : ℕ → ℕ) (j : ℕ) (lent : List ℕ) where
+  pub fill-more : j < length lent → set (over (row f j) lent) j (f j) ≡ over (row f (j + 1)) lent
+  unfolding over row
+  fill-more h =
+      rw (add-one j, length-append, row-length f j)
+      (ap (λ (l : List ℕ). set (row f j ++ l) j (f j)) (drop-cons lent j 0 h)
+      ∙ set-at (row f j) (getD lent j 0) (drop (suc j) lent) (f j) j (row-length f j)
+      ∙ rw (add-one j) (sym (append-snoc (row f j) (f j) (drop (suc j) lent))))
 
 -- ---- lists
--- The sizes that were read of a list record that passes: m x n is small, and the bytes are head, house weights and m x n entries
+-- The sizes read of a list record that passes: m x n is small, and the bytes are head, house weights and m x n entries
 pub record Sizes (b : List ℕ) (m n : ℕ) : Type 0 where
   pub small : m * n ≤ 8192
   pub whole : length b ≡ 8 + 2 * m + 4 * (m * n)
@@ -58,41 +63,51 @@ sizes-read b passes m-is n-is =
     rw (m-is, n-is) (record { small = size-fits (held .sizes); whole = held .whole })
 
 module _ (b items scores : List ℕ) where
-  -- a refusal leaves both slices as lent
-  refused-leaves : {x i p : ℕ} {r : ListsRead} → listsVerdict b items scores ≡ refused x i p → valueOfLists r ≡ listsRefusal x → ListsAreRead b items scores r items scores
-  unfolding readLists listsAnswer itemsAfter scoresAfter written
-  refused-leaves e says = record { answers = rw e says; leaves-items = rw e; leaves-scores = rw e }
+  -- both slices are as lent
+  abbrev pub AsLent : ListsRead → Type 0
+  AsLent r = ListsAreRead b items scores r items scores
 
-  pub lists-refused : {x : ℕ} {r : ListsRead} → x ≡ told (listsHead b) .number → (x ≡ 0 → ⊥) → valueOfLists r ≡ listsRefusal x → ListsAreRead b items scores r items scores
+  refused-leaves : {x : ℕ} (i p : ℕ) {r : ListsRead} → listsVerdict b items scores ≡ refused x i p → valueOfLists r ≡ listsRefusal x → AsLent r
+  unfolding readLists listsAnswer itemsAfter scoresAfter written
+  refused-leaves i p e says = record { answers = rw e says; leaves-items = rw e; leaves-scores = rw e }
+
+  pub lists-refused : {x : ℕ} {r : ListsRead} → x ≡ told (listsHead b) .number → (x ≡ 0 → ⊥) → valueOfLists r ≡ listsRefusal x → AsLent r
   unfolding listsVerdict
   lists-refused {x} e bad says =
-      refused-by (listsHead b) e bad (λ i p (refuses : listsHead b ≡ refused x i p). refused-leaves {i = i} {p = p} (rw refuses) says)
+      refused-by (listsHead b) e bad (λ i p (refuses : listsHead b ≡ refused x i p). refused-leaves i p (rw refuses) says)
 
-  module _ (passes : listsHead b ≡ accepted) {m n : ℕ} (m-is : m ≡ listsM b) (n-is : n ≡ listsN b) where
-    pub items-short : {r : ListsRead} → length items < m * n → valueOfLists r ≡ listsRefusal 6 → ListsAreRead b items scores r items scores
+  module _ {m n : ℕ} (passes : listsHead b ≡ accepted) (m-is : m ≡ listsM b) (n-is : n ≡ listsN b) where
+    pub items-short : {r : ListsRead} → length items < m * n → valueOfLists r ≡ listsRefusal 6 → AsLent r
     unfolding listsVerdict short
-    items-short h says = refused-leaves {i = 0} {p = 0} (rw (passes, ← m-is, ← n-is, lt-ltb (length items) (m * n) h)) says
+    items-short h says = refused-leaves 0 0 (rw (passes, ← m-is, ← n-is, lt-ltb (length items) (m * n) h)) says
 
     module _ (items-room : m * n ≤ length items) where
-      pub scores-short : {r : ListsRead} → length scores < m * n → valueOfLists r ≡ listsRefusal 6 → ListsAreRead b items scores r items scores
+      pub scores-short : {r : ListsRead} → length scores < m * n → valueOfLists r ≡ listsRefusal 6 → AsLent r
       unfolding listsVerdict short
       scores-short h says =
-          refused-leaves {i = 0} {p = 0}
+          refused-leaves 0 0
           (rw (passes, ← m-is, ← n-is, le-ltb (length items) (m * n) items-room, lt-ltb (length scores) (m * n) h)) says
 
       module _ (scores-room : m * n ≤ length scores) where
         accepts : listsVerdict b items scores ≡ accepted
         unfolding listsVerdict short
-        accepts = rw (passes, ← m-is, ← n-is, le-ltb (length items) (m * n) items-room, le-ltb (length scores) (m * n) scores-room)
+        accepts =
+            rw (passes, ← m-is, ← n-is, le-ltb (length items) (m * n) items-room)
+            (rw (le-ltb (length scores) (m * n) scores-room))
 
-        pub lists-taken : {i s : List ℕ} → i ≡ over (row (everyFourth b (8 + 2 * m)) (m * n)) items → s ≡ over (row (everyFourth b (8 + 2 * m + 2)) (m * n)) scores → ListsAreRead b items scores (record { number = 0; m = m; n = n }) i s
+        -- a slice filled with the entries' pairs from an offset on
+        abbrev pub filledFrom : ℕ → List ℕ → List ℕ
+        filledFrom from lent = over (row (everyFourth b from) (m * n)) lent
+
+        -- an entry's score follows its item
+        scores-filled : filledFrom (8 + 2 * m + 2) scores ≡ filledFrom (10 + 2 * m) scores
+        scores-filled = let at : 8 + 2 * m + 2 ≡ 10 + 2 * m = omega arith in ap (λ (from : ℕ). filledFrom from scores) at
+
+        pub lists-taken : {x : ℕ} {i s : List ℕ} → x ≡ 0 → i ≡ filledFrom (8 + 2 * m) items → s ≡ filledFrom (8 + 2 * m + 2) scores → ListsAreRead b items scores (record { number = x; m = m; n = n }) i s
         unfolding readLists listsAnswer itemsAfter scoresAfter written entryItem entryScore
-        lists-taken i-is s-is =
-            let shifted : row (everyFourth b (8 + 2 * m + 2)) (m * n) ≡ row (everyFourth b (10 + 2 * m)) (m * n) =
-            row-same (everyFourth b (8 + 2 * m + 2)) (everyFourth b (10 + 2 * m)) (m * n)
-            (λ j _. let at : 8 + 2 * m + 2 + 4 * j ≡ 10 + 2 * m + 4 * j = omega arith in ap (pair b) at) in
+        lists-taken none i-is s-is =
             record {
-              answers = rw (accepts, m-is, n-is);
+              answers = rw (accepts, none, m-is, n-is);
               leaves-items = rw accepts (rw (m-is, n-is) at i-is);
-              leaves-scores = rw accepts (rw (m-is, n-is) at (s-is ∙ ap (λ (l : List ℕ). over l scores) shifted));
+              leaves-scores = rw accepts (rw (m-is, n-is) at (s-is ∙ scores-filled));
             }

@@ -4,13 +4,14 @@
 --     QueryIsRead                        what `read_query` promises: the answer
 --     ListsAreRead                       what `read_lists` promises: the answer, and both slices as it leaves them
 --     lentOf, startOf, WeightsChosen     what `chosen_weights` promises: what the returned part holds, and where it stands
---     everyFourth, Filling               what `fill` writes, one half of the entries, and what it asks
+--     everyFourth, Filling, Filled       one half of the entries; what `fill` asks and promises
 -- Assumes nothing.
 use mathlib.Core.Path.{_≡_}
 use mathlib.Core.List.{List}
 use Prim.Native.Nat.{ℕ, _+_, _*_, _≤_}
 use lib.ListN.{length}
 use denote.Ref.{RefT, now}
+use Rattle.model.specs.Words.{row, over}
 use Rattle.model.specs.Refusals.{pair}
 use Rattle.model.specs.Records.{QueryRead as QueryValue, readQuery, ListsRead as ListsValue, readLists, itemsAfter, scoresAfter, Part, Record, theQuery, theLists, chosen, partOf}
 use Rattle.records.specs.declared.QueryRead.{QueryRead}
@@ -52,8 +53,8 @@ startOf part query lists =
     let from = lentOf (part .source) query lists in
     (from .ptr .0, part .start + from .ptr .1)
 
--- The weights chosen, at every two byte strings: the bytes of the chosen part; and "that part of the one record or the other,
--- uncopied": they stand where the part stands
+-- The weights chosen, at every two byte strings: they hold the bytes of the chosen part, and are "that part of the one record
+-- or the other, uncopied": they stand where the part does
 pub record WeightsChosen (query lists r : RefT (List ℕ)) : Type 0 where
   pub holds : now r ≡ partOf (chosen (now query) (now lists)) (now query) (now lists)
   pub stands : r .ptr ≡ startOf (chosen (now query) (now lists)) query lists
@@ -66,3 +67,7 @@ everyFourth bytes from j = pair bytes (from + 4 * j)
 pub record Filling (bytes : List ℕ) (from size : ℕ) (slice : List ℕ) : Type 0 where
   pub pairs-in : from + 4 * size ≤ length bytes + 2
   pub room : size ≤ length slice
+
+-- the first `size` places hold them, and places beyond stay as lent
+abbrev pub Filled : List ℕ → ℕ → ℕ → List ℕ → List ℕ → Type 0
+Filled bytes from size lent after = after ≡ over (row (everyFourth bytes from) size) lent

@@ -1,18 +1,17 @@
-// The reads of a query record and of a list record, and the weights chosen from the one or the other.
+// The reads of a query record and of a list record, and the weights chosen from either.
 // Numbers are big-endian, and a record's length counts the bytes after itself.
 ghost use mathlib.Core.Path.{_≡_};
 ghost use Prim.Native.Nat.{_+_, _≤_, _<_};
 ghost use lib.ListN.{length};
-ghost use Rattle.model.specs.Words.{row, over};
 ghost use Rattle.model.specs.Refusals.{pair};
 ghost use Rattle.model.specs.Records.{quad, queryCount, queryHead, listsM, listsN, listsHead};
 ghost use Rattle.model.specs.Answers.{told};
-ghost use Rattle.records.specs.Contracts.{valueOfQuery, queryRefusal, valueOfLists, listsRefusal, everyFourth, Filling, QueryIsRead, ListsAreRead, WeightsChosen};
+ghost use Rattle.records.specs.Contracts.{valueOfQuery, queryRefusal, valueOfLists, listsRefusal, Filling, Filled, QueryIsRead, ListsAreRead, WeightsChosen};
 
 // What the read of a query answers: a refusal's number with all else 0, or number 0 and the query.
-// A caller hands `rule` and `k` on to a search with no cast: `rule` is the record's own byte, and `k` is a
-// `usize` as all that a search counts with. `c` counts weights and `bytes` the bytes taken, so that
-// `&input[bytes..]` is what follows the record.
+// A caller hands `rule` and `k` on to a search with no cast: `rule` is the record's own byte, and
+// `k` a `usize` as is all that a search counts with. `c` counts weights and `bytes` the bytes taken,
+// `usize` too, so that `&input[bytes..]` is what follows the record.
 pub struct QueryRead {
     pub number: u32,
     pub rule: u8,
@@ -21,14 +20,15 @@ pub struct QueryRead {
     pub bytes: usize,
 }
 
-// What the read of lists answers: a refusal's number with all else 0, or number 0 and the sizes, which a
-// caller hands on to a search with no cast.
+// What the read of lists answers: a refusal's number with all else 0, or number 0 and the sizes,
+// which a caller hands on to a search with no cast.
 pub struct ListsRead {
     pub number: u32,
     pub m: usize,
     pub n: usize,
 }
 
+// A byte as a number to compute with.
 fn wide(x: u8) -> usize
     ensures { λ r. ⌜ (r ≡ x) × (r < 256) ⌝ }
 {
@@ -45,7 +45,8 @@ fn pair_at(bytes: &[u8], at: usize) -> usize
     high * 256 + low
 }
 
-// A record's length, in its first four bytes. It reaches 2^32 - 1, so sums with it are made in a `usize`.
+// A record's length, in its first four bytes. It reaches 2^32 - 1, to which nothing can be added in
+// 32 bits, so it is a `usize`.
 fn length_of(bytes: &[u8]) -> usize
     requires { ⌜ 4 ≤ length (now bytes) ⌝ }
     ensures { λ r. ⌜ r ≡ quad (now (bytes .entry)) 0 ⌝ }
@@ -99,8 +100,8 @@ fn query_head(query: &[u8]) -> u32
     0
 }
 
-// The tests of a list record but for its last, 6, which is of the slices: the number of the first that
-// refuses, and 0 where none does.
+// The tests of a list record but for its last, 6, which is of the slices: the number of the first
+// that refuses, and 0 where none does.
 fn lists_head(lists: &[u8]) -> u32
     ensures { λ r. ⌜ r ≡ told (listsHead (now (lists .entry))) .number ⌝ }
 {
@@ -120,8 +121,7 @@ fn lists_head(lists: &[u8]) -> u32
     if lists::wrong_size(m, n) {
         return 1;
     }
-    let counted = 4 + 2 * m + 4 * (m * n);
-    if length != counted {
+    if length != 4 + 2 * m + 4 * (m * n) {
         return 13;
     }
     0
@@ -144,9 +144,9 @@ fn query_refused(number: u32) -> QueryRead
 pub fn read_query(bytes: &[u8]) -> QueryRead
     ensures { λ r. ⌜ QueryIsRead (now (bytes .entry)) r ⌝ }
 {
-    let number = query_head(bytes);
-    if number != 0 {
-        return query_refused(number);
+    let refusal = query_head(bytes);
+    if refusal != 0 {
+        return query_refused(refusal);
     }
     let k = pair_at(bytes, 6);
     let c = query_count(bytes);
@@ -166,10 +166,10 @@ fn lists_refused(number: u32) -> ListsRead
     ListsRead { number, m: 0, n: 0 }
 }
 
-// Fills the first `size` places with one half of the entries: the pairs at `from`, `from` + 4, and so on.
+// Fills the first `size` places with one half of the entries: the pairs at `from`, `from` + 4, ..
 fn fill(bytes: &[u8], from: usize, size: usize, slice: &mut [u16])
     requires { ⌜ Filling (now bytes) from size (now slice) ⌝ }
-    ensures { λ _. ⌜ now (slice .exit) ≡ over (row (everyFourth (now (bytes .entry)) from) size) (now (slice .entry)) ⌝ }
+    ensures { λ _. ⌜ Filled (now (bytes .entry)) from size (now (slice .entry)) (now (slice .exit)) ⌝ }
 {
     let mut j = 0;
     while j < size {
@@ -179,8 +179,8 @@ fn fill(bytes: &[u8], from: usize, size: usize, slice: &mut [u16])
     }
 }
 
-// Reads the list record that `bytes` is into an item slice and a score slice. Entries past m x n stay as
-// lent, and so do both slices where the read is refused.
+// Reads the list record that `bytes` is into an item slice and a score slice. Entries past m x n
+// stay as lent, and so do both slices where the read is refused.
 pub fn read_lists(bytes: &[u8], items: &mut [u16], scores: &mut [u16]) -> ListsRead
     ensures { λ r. ⌜ ListsAreRead (now (bytes .entry)) (now (items .entry)) (now (scores .entry)) r (now (items .exit)) (now (scores .exit)) ⌝ }
 {
@@ -200,11 +200,12 @@ pub fn read_lists(bytes: &[u8], items: &mut [u16], scores: &mut [u16]) -> ListsR
     let start = 8 + 2 * m;
     fill(bytes, start, size, items);
     fill(bytes, start + 2, size, scores);
-    ListsRead { number: 0, m, n }
+    ListsRead { number, m, n }
 }
 
-// The weights that a query is to be searched with: its own, or where it has none the house weights of the
-// lists. They are a part of the one record or the other, uncopied, and empty where a read refuses either.
+// The weights that a query is to be searched with: its own, or where it has none the house weights
+// of the lists. They are a part of the one record or the other, uncopied, and empty where the read
+// of either refuses it by another number than 6.
 pub fn chosen_weights<'a>(query: &'a [u8], lists: &'a [u8]) -> &'a [u8]
     ensures { λ r. ⌜ WeightsChosen (query .entry) (lists .entry) r ⌝ }
 {

@@ -72,20 +72,20 @@ returns-4 c =
     lists-1 b (else1 .if1 .left) (after-length .length-of .ensures) (else2 .if2 .left) (else3 .if3 .left)
     (after-m .lists-m .ensures .0) (after-n .lists-n .ensures .0) (sym (after-size .wrong-size .ensures) ∙ c .if4 .taken)
 
-mul-counted : tie.Need-mul-counted
-mul-counted c = omega arith
+mul-if5 : tie.Need-mul-if5
+mul-if5 c = omega arith
 
-add-counted : tie.Need-add-counted
-add-counted c = omega arith
+add-if5 : tie.Need-add-if5
+add-if5 c = omega arith
 
-mul-counted-2 : tie.Need-mul-counted-2
-mul-counted-2 c = omega (arith, size-small c)
+mul-if5-2 : tie.Need-mul-if5-2
+mul-if5-2 c = omega (arith, size-small c)
 
-mul-counted-3 : tie.Need-mul-counted-3
-mul-counted-3 c = omega (arith, size-small c)
+mul-if5-3 : tie.Need-mul-if5-3
+mul-if5-3 c = omega (arith, size-small c)
 
-add-counted-2 : tie.Need-add-counted-2
-add-counted-2 c = omega (arith, size-small c)
+add-if5-2 : tie.Need-add-if5-2
+add-if5-2 c = omega (arith, size-small c)
 
 returns-5 : tie.Need-returns-5
 returns-5 c =
@@ -127,10 +127,10 @@ lists-head-spec =
     lists-n-requires
     wrong-size-requires
     returns-4
-    mul-counted
-    add-counted
-    mul-counted-2
-    mul-counted-3
-    add-counted-2
+    mul-if5
+    add-if5
+    mul-if5-2
+    mul-if5-3
+    add-if5-2
     returns-5
     returns-6)

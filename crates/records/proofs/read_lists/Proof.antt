@@ -116,7 +116,7 @@ returns-4 c =
     let after-items = c .before .before .before .before .before .before in
     let after-scores = c .before .before in
     lists-taken (args .bytes .now) (args .items .now) (args .scores .now) (passed else1) (after-m .lists-m .ensures .0) (after-n .lists-n .ensures .0)
-    (else2 .if2 .left) (else3 .if3 .left) (after-items .fill .ensures) (after-scores .fill2 .ensures)
+    (else2 .if2 .left) (else3 .if3 .left) (else1 .if1 .left) (after-items .fill .ensures) (after-scores .fill2 .ensures)
 
 pub read-lists-spec : {M : Type 1} → statement M
 read-lists-spec =
