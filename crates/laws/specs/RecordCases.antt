@@ -1,5 +1,5 @@
--- The two records and the chosen weights on small inputs, computed: case B's input, each number by itself, two faults together, the
--- three kinds of count. The expected values were worked out by hand from document 01.
+-- The two records and the chosen weights on small inputs, computed: case B's input, each number by itself, two faults
+-- together, the three kinds of count. The expected values were worked out by hand from document 01.
 --     queryOfB, listsOfB             case B's input, byte by byte
 --     QueryCase, queries-read        a query record, and the answer that its read must give
 --     ListsCase, lists-read          a list record with two slices, the answer, and both slices afterwards
@@ -39,12 +39,12 @@ pub record QueryCase : Type 0 where
   pub expected : QueryRead
 
 -- an answer in the order number, rule, k, c, bytes taken
-abbrev query : List ℕ → ℕ → ℕ → ℕ → ℕ → ℕ → QueryCase
-query bytes number rule k c taken =
+abbrev readAs : List ℕ → ℕ → ℕ → ℕ → ℕ → ℕ → QueryCase
+readAs bytes number rule k c taken =
     record { bytes = bytes; expected = record { number = number; rule = rule; k = k; c = c; bytes = taken } }
 
 abbrev refusedQuery : List ℕ → ℕ → QueryCase
-refusedQuery bytes number = query bytes number 0 0 0 0
+refusedQuery bytes number = readAs bytes number 0 0 0 0
 
 -- three weights of its own, 5, 6 and 7, by rule 1, k = 258
 unfoldable pub ownThree : List ℕ
@@ -52,10 +52,10 @@ ownThree = 0 ∷ 0 ∷ 0 ∷ 11 ∷ 1 ∷ 1 ∷ 1 ∷ 2 ∷ 3 ∷ 0 ∷ 5 ∷ 0 
 
 unfoldable pub queryCases : List QueryCase
 queryCases =
-    query queryOfB 0 0 4 0 9
-    ∷ query ownThree 0 1 258 3 15
+    readAs queryOfB 0 0 4 0 9
+    ∷ readAs ownThree 0 1 258 3 15
     -- "Bytes after it belong to the next record"
-    ∷ query (queryOfB ++ listsOfB) 0 0 4 0 9
+    ∷ readAs (queryOfB ++ listsOfB) 0 0 4 0 9
     ∷ refusedQuery [] 10
     ∷ refusedQuery (take 8 queryOfB) 10
     ∷ refusedQuery (0 ∷ 0 ∷ 0 ∷ 5 ∷ 2 ∷ 0 ∷ 0 ∷ 4 ∷ 0 ∷ []) 12
@@ -170,7 +170,8 @@ pub record ChoiceCase : Type 0 where
 
 abbrev choice : List ℕ → List ℕ → Record → ℕ → ℕ → List ℕ → ChoiceCase
 choice query lists source start size weights =
-    record { query = query; lists = lists; expected = record { source = source; start = start; size = size }; weights = weights }
+    let part : Part = record { source = source; start = start; size = size } in
+    record { query = query; lists = lists; expected = part; weights = weights }
 
 abbrev emptyChoice : List ℕ → List ℕ → ChoiceCase
 emptyChoice query lists = choice query lists theQuery 0 0 []

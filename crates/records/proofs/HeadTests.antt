@@ -1,8 +1,8 @@
 -- The tests of each record, from the comparisons that the code makes, and the number that the code answers.
 --     query-10, query-12, query-13, query-11, query-passes               a query record's
 --     lists-10, lists-11, lists-12, lists-1, lists-13, lists-passes      a list record's
--- Each takes what the tests before it left. What the code has read comes with what it is of the record: `l` the length, `k` the
--- count of weights, `m` and `n` the sizes.
+-- Each takes what the tests before it left. What the code has read comes with what it is of the record: `l` the length, `k`
+-- the count of weights, `m` and `n` the sizes.
 -- Assumes nothing.
 use mathlib.Core.Path.{_≡_, refl}
 use mathlib.Core.Bool.{true, false}

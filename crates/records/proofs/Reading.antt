@@ -52,15 +52,24 @@ module _ (f : ℕ → ℕ) (j : ℕ) (lent : List ℕ) where
       ∙ rw (add-one j) (sym (append-snoc (row f j) (f j) (drop (suc j) lent))))
 
 -- ---- lists
--- The sizes read of a list record that passes: m x n is small, and the bytes are head, house weights and m x n entries
+-- m and n are the sizes of a list record that passes: m x n is small, and the bytes are head, house weights and m x n entries
 pub record Sizes (b : List ℕ) (m n : ℕ) : Type 0 where
+  pub passes : listsHead b ≡ accepted
+  pub m-is : m ≡ listsM b
+  pub n-is : n ≡ listsN b
   pub small : m * n ≤ 8192
   pub whole : length b ≡ 8 + 2 * m + 4 * (m * n)
 
 pub sizes-read : (b : List ℕ) {m n : ℕ} → listsHead b ≡ accepted → m ≡ listsM b → n ≡ listsN b → Sizes b m n
 sizes-read b passes m-is n-is =
     let held = lists-held b passes in
-    rw (m-is, n-is) (record { small = size-fits (held .sizes); whole = held .whole })
+    record {
+      passes = passes;
+      m-is = m-is;
+      n-is = n-is;
+      small = rw (m-is, n-is) (size-fits (held .sizes));
+      whole = rw (m-is, n-is) (held .whole);
+    }
 
 module _ (b items scores : List ℕ) where
   -- both slices are as lent
@@ -76,23 +85,25 @@ module _ (b items scores : List ℕ) where
   lists-refused {x} e bad says =
       refused-by (listsHead b) e bad (λ i p (refuses : listsHead b ≡ refused x i p). refused-leaves i p (rw refuses) says)
 
-  module _ {m n : ℕ} (passes : listsHead b ≡ accepted) (m-is : m ≡ listsM b) (n-is : n ≡ listsN b) where
+  module _ {m n : ℕ} (z : Sizes b m n) where
     pub items-short : {r : ListsRead} → length items < m * n → valueOfLists r ≡ listsRefusal 6 → AsLent r
     unfolding listsVerdict short
-    items-short h says = refused-leaves 0 0 (rw (passes, ← m-is, ← n-is, lt-ltb (length items) (m * n) h)) says
+    items-short h says =
+        refused-leaves 0 0 (rw (z .passes, ← (z .m-is), ← (z .n-is), lt-ltb (length items) (m * n) h)) says
 
     module _ (items-room : m * n ≤ length items) where
       pub scores-short : {r : ListsRead} → length scores < m * n → valueOfLists r ≡ listsRefusal 6 → AsLent r
       unfolding listsVerdict short
       scores-short h says =
           refused-leaves 0 0
-          (rw (passes, ← m-is, ← n-is, le-ltb (length items) (m * n) items-room, lt-ltb (length scores) (m * n) h)) says
+          (rw (z .passes, ← (z .m-is), ← (z .n-is), le-ltb (length items) (m * n) items-room)
+          (rw (lt-ltb (length scores) (m * n) h))) says
 
       module _ (scores-room : m * n ≤ length scores) where
         accepts : listsVerdict b items scores ≡ accepted
         unfolding listsVerdict short
         accepts =
-            rw (passes, ← m-is, ← n-is, le-ltb (length items) (m * n) items-room)
+            rw (z .passes, ← (z .m-is), ← (z .n-is), le-ltb (length items) (m * n) items-room)
             (rw (le-ltb (length scores) (m * n) scores-room))
 
         -- a slice filled with the entries' pairs from an offset on
@@ -107,7 +118,7 @@ module _ (b items scores : List ℕ) where
         unfolding readLists listsAnswer itemsAfter scoresAfter written entryItem entryScore
         lists-taken none i-is s-is =
             record {
-              answers = rw (accepts, none, m-is, n-is);
-              leaves-items = rw accepts (rw (m-is, n-is) at i-is);
-              leaves-scores = rw accepts (rw (m-is, n-is) at (s-is ∙ scores-filled));
+              answers = rw (accepts, none, z .m-is, z .n-is);
+              leaves-items = rw accepts (rw (z .m-is, z .n-is) at i-is);
+              leaves-scores = rw accepts (rw (z .m-is, z .n-is) at (s-is ∙ scores-filled));
             }

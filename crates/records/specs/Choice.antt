@@ -61,7 +61,9 @@ module _ (query lists : List ℕ) where
 
       pub own-length : (queryCount query ≡ 0 → ⊥) → length weightsOf ≡ 2 * queryCount query
       unfolding partOf recordOf
-      own-length h = rw (chosen-own h) (part-length query 9 (2 * queryCount query) (query-held query query-passes .weights-in))
+      own-length h =
+          let held = query-held query query-passes in
+          rw (chosen-own h) (part-length query 9 (2 * queryCount query) (held .weights-in))
 
       pub other-count-refused : (queryCount query ≡ 0 → ⊥) → (queryCount query ≡ listsM lists → ⊥) → wrongWeights (listsM lists) weightsOf ≡ true
       unfolding wrongWeights

@@ -3,7 +3,7 @@
 --     queryRefusal, listsRefusal         the answer of a refused read
 --     QueryIsRead                        what `read_query` promises: the answer
 --     ListsAreRead                       what `read_lists` promises: the answer, and both slices as it leaves them
---     lentOf, startOf, WeightsChosen     what `chosen_weights` promises: what the returned part holds, and where it stands
+--     lentOf, startOf, WeightsChosen     what `chosen_weights` promises: what the part holds, and where it stands
 --     everyFourth, Filling, Filled       one half of the entries; what `fill` asks and promises
 -- Assumes nothing.
 use mathlib.Core.Path.{_≡_}
@@ -35,8 +35,8 @@ listsRefusal number = record { number = number; m = 0; n = 0 }
 pub record QueryIsRead (bytes : List ℕ) (r : QueryRead) : Type 0 where
   pub answers : valueOfQuery r ≡ readQuery bytes
 
--- The read of lists, at every byte string and every two slices: it answers what the model answers, and leaves both slices as
--- the model says
+-- The read of lists, at every byte string and every two slices: it answers what the model answers, and leaves both slices
+-- as the model says
 pub record ListsAreRead (bytes items scores : List ℕ) (r : ListsRead) (items-left scores-left : List ℕ) : Type 0 where
   pub answers : valueOfLists r ≡ readLists bytes items scores
   pub leaves-items : items-left ≡ itemsAfter bytes items scores
@@ -53,8 +53,8 @@ startOf part query lists =
     let from = lentOf (part .source) query lists in
     (from .ptr .0, part .start + from .ptr .1)
 
--- The weights chosen, at every two byte strings: they hold the bytes of the chosen part, and are "that part of the one record
--- or the other, uncopied": they stand where the part does
+-- The weights chosen, at every two byte strings: they hold the bytes of the chosen part, and are "that part of the one
+-- record or the other, uncopied": they stand where the part does
 pub record WeightsChosen (query lists r : RefT (List ℕ)) : Type 0 where
   pub holds : now r ≡ partOf (chosen (now query) (now lists)) (now query) (now lists)
   pub stands : r .ptr ≡ startOf (chosen (now query) (now lists)) query lists

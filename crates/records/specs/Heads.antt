@@ -116,5 +116,6 @@ module _ (b : List ℕ) where
       let after-1 = when-then 1 (wrongSize (listsM b) (listsN b)) lists-from-13 (after-12 .1) in
       let head : 8 ≤ length b = ltb-false (length b) 8 (after-10 .0) in
       let ends = eqb-true (quad b 0) (length b - 4) (not-false (eqb (quad b 0) (length b - 4)) (after-11 .0)) in
-      let counts = eqb-true (quad b 0) says (not-false (eqb (quad b 0) says) (when-passes 13 (not (eqb (quad b 0) says)) (after-1 .1))) in
+      let after-13 = when-passes 13 (not (eqb (quad b 0) says)) (after-1 .1) in
+      let counts = eqb-true (quad b 0) says (not-false (eqb (quad b 0) says) after-13) in
       record { sizes = sized (listsM b) (listsN b) (after-1 .0); whole = omega arith }

@@ -2,9 +2,9 @@
 --     query-one-to-one, lists-one-to-one     two answers of one value are one answer
 --     query-settles, lists-settle, weights-settle    any two results that meet a contract coincide, slices included
 --     query-zero, lists-zero                 the number is 0 exactly where the model accepts
---     query-within                           a query that is read lies within the bytes, so what follows it is a part of them
---     lists-sized                            lists that are read have sizes that test 1 lets pass, and there is room for them
--- A slice that is returned is where it stands and what it holds; the name that the proofs track it by is no part of a result.
+--     query-within                           a query that is read lies within the bytes, and so does where the next starts
+--     lists-sized                            lists that are read: sizes that test 1 lets pass, and room for them
+-- A slice that is returned is where it stands and what it holds; the name that the logic tracks it by is no part of a result.
 -- Assumes nothing.
 use mathlib.Core.Path.{_≡_, refl, sym, ap, _∙_}
 use mathlib.Core.Bool.{Bool, _||_}
@@ -42,15 +42,18 @@ module _ {b : List ℕ} {r : QueryRead} (x : QueryIsRead b r) where
   pub query-zero : (r .number ≡ 0) ↔ (queryHead b ≡ accepted)
   unfolding readQuery queryAnswer
   query-zero =
-      let same = ap (λ (v : QueryValue). v .number) (x .answers) in
-      (λ none. query-number (queryHead b) b (numbered-query b) (sym same ∙ none), λ e. same ∙ ap (λ (v : Verdict). queryAnswer v b .number) e)
+      let same = ap (λ (v : QueryValue). v .number) (x .answers) in (
+        λ none. query-number (queryHead b) b (numbered-query b) (sym same ∙ none),
+        λ e. same ∙ ap (λ (v : Verdict). queryAnswer v b .number) e,
+      )
 
   -- `&input[bytes..]` is what follows the record
   pub query-within : r .number ≡ 0 → r .bytes ≤ length b
   unfolding readQuery queryAnswer
   query-within none =
       let passes = query-zero .0 none in
-      let taken : r .bytes ≡ 9 + 2 * queryCount b = ap (λ (v : QueryValue). v .bytes) (x .answers) ∙ ap (λ (v : Verdict). queryAnswer v b .bytes) passes in
+      let answer = x .answers ∙ ap (λ (v : Verdict). queryAnswer v b) passes in
+      let taken : r .bytes ≡ 9 + 2 * queryCount b = ap (λ (v : QueryValue). v .bytes) answer in
       omega (arith, query-held b passes .weights-in)
 
 -- ---- lists
@@ -85,8 +88,10 @@ module _ {b items scores i s : List ℕ} {r : ListsRead} (x : ListsAreRead b ite
   pub lists-zero : (r .number ≡ 0) ↔ (listsVerdict b items scores ≡ accepted)
   unfolding readLists listsAnswer
   lists-zero =
-      let same = ap (λ (v : ListsValue). v .number) (x .answers) in
-      (λ none. lists-number (listsVerdict b items scores) b numbered-verdict (sym same ∙ none), λ e. same ∙ ap (λ (v : Verdict). listsAnswer v b .number) e)
+      let same = ap (λ (v : ListsValue). v .number) (x .answers) in (
+        λ none. lists-number (listsVerdict b items scores) b numbered-verdict (sym same ∙ none),
+        λ e. same ∙ ap (λ (v : Verdict). listsAnswer v b .number) e,
+      )
 
   pub lists-sized : r .number ≡ 0 → ListsSized items scores r
   unfolding readLists listsAnswer listsVerdict
@@ -96,8 +101,9 @@ module _ {b items scores i s : List ℕ} {r : ListsRead} (x : ListsAreRead b ite
       let m-is : r .m ≡ listsM b = ap (λ (v : ListsValue). v .m) answer in
       let n-is : r .n ≡ listsN b = ap (λ (v : ListsValue). v .n) answer in
       let size = listsM b * listsN b in
-      let six = 6 when (short size items || short size scores) in
-      let room = or-no (short size items) (short size scores) (when-passes 6 (short size items || short size scores) (then-second (listsHead b) six passes)) in
+      let both = short size items || short size scores in
+      let six = 6 when both in
+      let room = or-no (short size items) (short size scores) (when-passes 6 both (then-second (listsHead b) six passes)) in
       record {
         sizes = rw (m-is, n-is) (lists-held b (then-first (listsHead b) six passes) .sizes);
         items-long = rw (m-is, n-is) (long size items (room .0));

@@ -10,8 +10,8 @@ ghost use Rattle.records.specs.Contracts.{valueOfQuery, queryRefusal, va
 
 // What the read of a query answers: a refusal's number with all else 0, or number 0 and the query.
 // A caller hands `rule` and `k` on to a search with no cast: `rule` is the record's own byte, and
-// `k` a `usize` as is all that a search counts with. `c` counts weights and `bytes` the bytes taken,
-// `usize` too, so that `&input[bytes..]` is what follows the record.
+// `k` a `usize`, as is all that a search counts with. `c` counts weights and `bytes` the bytes
+// taken, `usize` too, so that `&input[bytes..]` is what follows the record.
 pub struct QueryRead {
     pub number: u32,
     pub rule: u8,

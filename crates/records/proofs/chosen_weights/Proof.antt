@@ -1,4 +1,5 @@
--- `records::chosen_weights` meets its contract: either record is refused, or both pass and the part goes by the query's count.
+-- `records::chosen_weights` meets its contract: either record is refused, or both pass and the part goes by the query's
+-- count.
 -- Assumes nothing.
 use mathlib.Core.Path.{_≡_, refl, sym, _∙_}
 use Prim.Native.Nat.{_+_, _*_}
@@ -108,7 +109,8 @@ returns-3 c =
     let then3 = c .before .before in
     let else1 = c .before .before .before .before .before .before in
     let else2 = c .before .before .before .before in
-    part-chosen (args .query) (args .lists) (housePart (args .lists .now)) (8 + 2 * after-m .lists-m .result) (c .result3 .given .0)
+    let end = 8 + 2 * after-m .lists-m .result in
+    part-chosen (args .query) (args .lists) (housePart (args .lists .now)) end (c .result3 .given .0)
     (chosen-house (args .query .now) (args .lists .now) (query-passed else1) (lists-passed else2)
     (sym (after-count .query-count .ensures .0) ∙ then3 .if3 .taken))
     (omega (arith, after-m .lists-m .ensures .0))
@@ -138,7 +140,8 @@ returns-4 c =
     let else1 = c .before .before .before .before .before in
     let else2 = c .before .before .before in
     let else3 = c .before in
-    part-chosen (args .query) (args .lists) (ownPart (args .query .now)) (9 + 2 * after-count .query-count .result) (c .result4 .given .0)
+    let end = 9 + 2 * after-count .query-count .result in
+    part-chosen (args .query) (args .lists) (ownPart (args .query .now)) end (c .result4 .given .0)
     (chosen-own (args .query .now) (args .lists .now) (query-passed else1) (lists-passed else2)
     (λ none. else3 .if3 .left (after-count .query-count .ensures .0 ∙ none)))
     (omega (arith, after-count .query-count .ensures .0))

@@ -1,5 +1,5 @@
--- `records::fill` meets its contract. The loop's invariant: the first j places hold the pairs and the rest is as lent; the measure is
--- what is left of `size`.
+-- `records::fill` meets its contract. The loop's invariant: the first j places hold the pairs and the rest is as lent; the
+-- measure is what is left of `size`.
 -- Assumes nothing.
 use mathlib.Core.Path.{_≡_, refl}
 use Prim.Native.Nat.{ℕ, _-_, _≤_, _<_}

@@ -1,5 +1,5 @@
--- `records::lists_head` meets its contract: at each way out the tests before it have passed (`HeadTests`). That m x n fits is known
--- from test 1, which comes before the length is computed.
+-- `records::lists_head` meets its contract: at each way out the tests before it have passed (`HeadTests`). That m x n fits
+-- is known from test 1, which comes before the product is made.
 -- Assumes nothing.
 use mathlib.Core.Bool.{false}
 use mathlib.Core.Path.{_≡_, sym, _∙_}

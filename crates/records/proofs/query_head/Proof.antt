@@ -32,7 +32,8 @@ returns-2 c =
     let else1 = c .before .before .before .before in
     let after-length = c .before .before .before in
     let after-count = c .before .before in
-    query-12 b (else1 .if1 .left) (after-length .length-of .ensures) (after-count .query-count .ensures .0) (c .if2 .taken)
+    query-12 b (else1 .if1 .left) (after-length .length-of .ensures) (after-count .query-count .ensures .0)
+    (c .if2 .taken)
 
 returns-3 : tie.Need-returns-3
 returns-3 c =

@@ -1,5 +1,5 @@
--- `records::read_lists` meets its contract: the record is refused, or a slice is too short, or both slices are filled, each by one
--- call of `fill`.
+-- `records::read_lists` meets its contract: the record is refused, or a slice is too short, or both slices are filled, each
+-- by one call of `fill`.
 -- Assumes nothing.
 use mathlib.Core.Path.{_≡_}
 use native.Mathlib.Omega.{arith}
@@ -37,8 +37,8 @@ returns c =
     let args = c .before .before .before .before .before .before .args in
     let after-head = c .before .before in
     let then1 = c .before in
-    lists-refused (args .bytes .now) (args .items .now) (args .scores .now) (after-head .lists-head .ensures) (then1 .if1 .taken)
-    (c .lists-refused .ensures)
+    lists-refused (args .bytes .now) (args .items .now) (args .scores .now)
+    (after-head .lists-head .ensures) (then1 .if1 .taken) (c .lists-refused .ensures)
 
 lists-m-requires : tie.Need-lists-m-requires
 lists-m-requires c κs =
@@ -59,11 +59,9 @@ lists-refused-requires-2 c κs = tt
 returns-2 : tie.Need-returns-2
 returns-2 c =
     let args = c .before .before .before .before .before .before .before .before .before .args in
-    let else1 = c .before .before .before .before in
-    let after-m = c .before .before .before in
     let after-n = c .before .before in
     let then2 = c .before in
-    items-short (args .bytes .now) (args .items .now) (args .scores .now) (passed else1) (after-m .lists-m .ensures .0) (after-n .lists-n .ensures .0)
+    items-short (args .bytes .now) (args .items .now) (args .scores .now) (sizes after-n)
     (then2 .if2 .taken) (c .lists-refused2 .ensures)
 
 lists-refused-requires-3 : tie.Need-lists-refused-requires-3
@@ -72,12 +70,10 @@ lists-refused-requires-3 c κs = tt
 returns-3 : tie.Need-returns-3
 returns-3 c =
     let args = c .before .before .before .before .before .before .before .before .before .before .args in
-    let else1 = c .before .before .before .before .before in
-    let after-m = c .before .before .before .before in
     let after-n = c .before .before .before in
     let else2 = c .before .before in
     let then3 = c .before in
-    scores-short (args .bytes .now) (args .items .now) (args .scores .now) (passed else1) (after-m .lists-m .ensures .0) (after-n .lists-n .ensures .0)
+    scores-short (args .bytes .now) (args .items .now) (args .scores .now) (sizes after-n)
     (else2 .if2 .left) (then3 .if3 .taken) (c .lists-refused3 .ensures)
 
 mul-start : tie.Need-mul-start
@@ -88,16 +84,18 @@ add-start c = omega arith
 
 fill-requires : tie.Need-fill-requires
 fill-requires c κs =
+    let after-n = c .before .before .before in
     let else2 = c .before .before in
-    record { pairs-in = omega (arith, sizes (c .before .before .before)); room = else2 .if2 .left }
+    record { pairs-in = omega (arith, sizes after-n); room = else2 .if2 .left }
 
 add-fill : tie.Need-add-fill
 add-fill c = omega arith
 
 fill-requires-2 : tie.Need-fill-requires-2
 fill-requires-2 c κs =
+    let after-n = c .before .before .before .before .before .before .before in
     let else3 = c .before .before .before .before .before in
-    record { pairs-in = omega (arith, sizes (c .before .before .before .before .before .before .before)); room = else3 .if3 .left }
+    record { pairs-in = omega (arith, sizes after-n); room = else3 .if3 .left }
 
 same-length : tie.Need-same-length
 same-length c = search needs
@@ -109,13 +107,12 @@ returns-4 : tie.Need-returns-4
 returns-4 c =
     let args = c .before .before .before .before .before .before .before .before .before .before .before .before .before .before .before .before .before .args in
     let else1 = c .before .before .before .before .before .before .before .before .before .before .before .before in
-    let after-m = c .before .before .before .before .before .before .before .before .before .before .before in
     let after-n = c .before .before .before .before .before .before .before .before .before .before in
     let else2 = c .before .before .before .before .before .before .before .before .before in
     let else3 = c .before .before .before .before .before .before .before .before in
     let after-items = c .before .before .before .before .before .before in
     let after-scores = c .before .before in
-    lists-taken (args .bytes .now) (args .items .now) (args .scores .now) (passed else1) (after-m .lists-m .ensures .0) (after-n .lists-n .ensures .0)
+    lists-taken (args .bytes .now) (args .items .now) (args .scores .now) (sizes after-n)
     (else2 .if2 .left) (else3 .if3 .left) (else1 .if1 .left) (after-items .fill .ensures) (after-scores .fill2 .ensures)
 
 pub read-lists-spec : {M : Type 1} → statement M

@@ -1,4 +1,5 @@
--- `records::read_query` meets its contract: the record is refused, or it passes its tests and the head lies within the bytes.
+-- `records::read_query` meets its contract: the record is refused, or it passes its tests and its head lies within the
+-- bytes.
 -- Assumes nothing.
 use mathlib.Core.Path.{_≡_}
 use native.Mathlib.Omega.{arith}
@@ -27,7 +28,8 @@ returns c =
     let at-start = c .before .before .before .before in
     let after-head = c .before .before in
     let then1 = c .before in
-    query-refused (at-start .args .bytes .now) (after-head .query-head .ensures) (then1 .if1 .taken) (c .query-refused .ensures)
+    query-refused (at-start .args .bytes .now)
+    (after-head .query-head .ensures) (then1 .if1 .taken) (c .query-refused .ensures)
 
 pair-at-requires : tie.Need-pair-at-requires
 pair-at-requires c κs =
@@ -55,8 +57,9 @@ returns-2 c =
     let at-start = c .before .before .before .before .before .before in
     let after-k = c .before .before in
     let after-count = c .before in
-    query-taken (at-start .args .bytes .now) (after-k .pair-at .result) (after-count .query-count .result) (passed (c .before .before .before))
-    (after-k .pair-at .ensures .0) (after-count .query-count .ensures .0)
+    let else1 = c .before .before .before in
+    query-taken (at-start .args .bytes .now) (after-k .pair-at .result) (after-count .query-count .result)
+    (passed else1) (after-k .pair-at .ensures .0) (after-count .query-count .ensures .0)
 
 pub read-query-spec : {M : Type 1} → statement M
 read-query-spec =
