@@ -4,7 +4,7 @@
 -- Each takes what the tests before it left. What the code has read comes with what it is of the record: `l` the length, `k`
 -- the count of weights, `m` and `n` the sizes.
 -- Assumes nothing.
-use mathlib.Core.Path.{_≡_, refl}
+use mathlib.Core.Path.{_≡_}
 use mathlib.Core.Bool.{true, false}
 use mathlib.Core.List.{List}
 use Prim.Native.Nat.{ℕ, _+_, _-_, _*_, _≤_, _<_}

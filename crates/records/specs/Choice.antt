@@ -5,17 +5,16 @@
 --     house-length, own-length       the chosen part lies whole within its record
 --     other-count-refused            "Any other c hands on its own weights as well, and the search refuses them by 4"
 -- Assumes nothing.
-use mathlib.Core.Path.{_≡_, refl, ap, _∙_}
-use mathlib.Core.Bool.{true, cond, not, _||_}
+use mathlib.Core.Path.{_≡_}
+use mathlib.Core.Bool.{true}
 use mathlib.Core.List.{List}
-use Prim.Native.Nat.{ℕ, _+_, _-_, _*_, _≤_}
+use Prim.Native.Nat.{ℕ, _+_, _*_, _≤_}
 use native.Mathlib.Omega.{arith}
-use lib.Dec.{eqb}
 use lib.ListN.{length, take, drop, length-drop}
 use lib.Seq.{length-take-le}
 use borrow.Author.Tests.{eq-eqb, ne-eqb}
 use Rattle.model.specs.Refusals.{accepted, refused, wrongWeights}
-use Rattle.model.specs.Records.{queryCount, queryHead, listsM, listsN, listsHead, Part, theQuery, theLists, chosenPart, choosing, chosen, recordOf, partOf}
+use Rattle.model.specs.Records.{queryCount, queryHead, listsM, listsHead, Part, theQuery, theLists, chosenPart, choosing, chosen, recordOf, partOf}
 use Rattle.records.specs.Heads.{query-held, lists-held}
 
 abbrev pub noPart : Part

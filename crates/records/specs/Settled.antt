@@ -7,14 +7,14 @@
 -- A slice that is returned is where it stands and what it holds; the name that the logic tracks it by is no part of a result.
 -- Assumes nothing.
 use mathlib.Core.Path.{_≡_, refl, sym, ap, _∙_}
-use mathlib.Core.Bool.{Bool, _||_}
+use mathlib.Core.Bool.{_||_}
 use mathlib.Core.List.{List}
 use mathlib.Core.Logic.{_↔_}
 use Prim.Native.Nat.{ℕ, _+_, _*_, _≤_}
 use native.Mathlib.Omega.{arith}
 use lib.ListN.{length}
 use denote.Ref.{RefT, now}
-use Rattle.model.specs.Refusals.{Verdict, accepted, refused, _when_, _then_, short}
+use Rattle.model.specs.Refusals.{Verdict, accepted, refused, _when_, short}
 use Rattle.model.specs.Records.{QueryRead as QueryValue, queryHead, queryCount, queryAnswer, readQuery, ListsRead as ListsValue, listsM, listsN, listsHead, listsVerdict, listsAnswer, readLists}
 use Rattle.laws.specs.Tests.{or-no}
 use Rattle.laws.specs.Verdicts.{Numbered, numbered-when, numbered-then, when-passes, then-first, then-second}

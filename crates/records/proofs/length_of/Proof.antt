@@ -1,6 +1,5 @@
 -- `records::length_of` meets its contract: two pairs, the first times 65,536.
 -- Assumes nothing.
-use mathlib.Core.Path.{_≡_, refl}
 use native.Mathlib.Omega.{arith}
 use Rattle.model.specs.Records.{quad}
 use Rattle.records.proofs.length_of.Statement.{statement}

@@ -1,6 +1,5 @@
 -- `records::pair_at` meets its contract: two bytes, the first times 256, and each is below 256.
 -- Assumes nothing.
-use mathlib.Core.Path.{_≡_, refl}
 use native.Mathlib.Omega.{arith}
 use Rattle.model.specs.Refusals.{pair}
 use Rattle.records.proofs.pair_at.Statement.{statement}
