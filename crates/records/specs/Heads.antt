@@ -1,5 +1,7 @@
--- What a record keeps that passes its tests, and that a refusal of one is never numbered 0.
+-- The tests of each record, what a record keeps that passes them, and that a refusal is never numbered 0.
 --     refused-by                         told by a number other than 0: refused by it
+--     querySays, query-from-12 ..        a query record's length by its count; its tests from each of them on
+--     listsSays, lists-from-11 ..        a list record's
 --     query-accepted, lists-accepted     told by 0: accepted
 --     QueryHeld, query-held              a query record that passes: its head and its weights lie within the bytes
 --     ListsHeld, lists-held              a list record that passes: its sizes, and the bytes are the record
@@ -33,14 +35,18 @@ refused-by (refused y i p) e bad f = f i p (ap (λ (z : ℕ). refused z i p) (sy
 
 -- ---- a query record
 module _ (b : List ℕ) where
-  -- its tests from the second, the third and the fourth on
-  abbrev query-from-11 : Verdict
+  -- the length that its count says
+  abbrev pub querySays : ℕ
+  querySays = 5 + 2 * queryCount b
+
+  -- its tests from the last, the one before it, and so on, up to the second
+  abbrev pub query-from-11 : Verdict
   query-from-11 = 11 when ltb (length b - 4) (quad b 0)
 
-  abbrev query-from-13 : Verdict
-  query-from-13 = 13 when not (eqb (quad b 0) (5 + 2 * queryCount b)) then query-from-11
+  abbrev pub query-from-13 : Verdict
+  query-from-13 = 13 when not (eqb (quad b 0) querySays) then query-from-11
 
-  abbrev query-from-12 : Verdict
+  abbrev pub query-from-12 : Verdict
   query-from-12 = 12 when not (eqb (byte b 4) 1) then query-from-13
 
   pub numbered-query : Numbered (queryHead b)
@@ -48,7 +54,7 @@ module _ (b : List ℕ) where
   numbered-query =
       numbered-test 10 (ltb (length b) 9) query-from-12 (omega arith)
       (numbered-test 12 (not (eqb (byte b 4) 1)) query-from-13 (omega arith)
-      (numbered-test 13 (not (eqb (quad b 0) (5 + 2 * queryCount b))) query-from-11 (omega arith)
+      (numbered-test 13 (not (eqb (quad b 0) querySays)) query-from-11 (omega arith)
       (numbered-when 11 (ltb (length b - 4) (quad b 0)) (omega arith))))
 
   pub query-accepted : {x : ℕ} → x ≡ told (queryHead b) .number → x ≡ 0 → queryHead b ≡ accepted
@@ -62,32 +68,31 @@ module _ (b : List ℕ) where
   pub query-held : queryHead b ≡ accepted → QueryHeld
   unfolding queryHead
   query-held e =
-      let says = 5 + 2 * queryCount b in
       let after-10 = when-then 10 (ltb (length b) 9) query-from-12 e in
       let after-12 = when-then 12 (not (eqb (byte b 4) 1)) query-from-13 (after-10 .1) in
-      let after-13 = when-then 13 (not (eqb (quad b 0) says)) query-from-11 (after-12 .1) in
+      let after-13 = when-then 13 (not (eqb (quad b 0) querySays)) query-from-11 (after-12 .1) in
       let head : 9 ≤ length b = ltb-false (length b) 9 (after-10 .0) in
-      let counts = eqb-true (quad b 0) says (not-false (eqb (quad b 0) says) (after-13 .0)) in
+      let counts = eqb-true (quad b 0) querySays (not-false (eqb (quad b 0) querySays) (after-13 .0)) in
       let ends = ltb-false (length b - 4) (quad b 0) (when-passes 11 (ltb (length b - 4) (quad b 0)) (after-13 .1)) in
       record { head-in = head; weights-in = omega arith }
 
 -- ---- a list record
 module _ (b : List ℕ) where
   -- the length that its counts say
-  abbrev says : ℕ
-  says = 4 + 2 * listsM b + 4 * (listsM b * listsN b)
+  abbrev pub listsSays : ℕ
+  listsSays = 4 + 2 * listsM b + 4 * (listsM b * listsN b)
 
-  -- its tests from the second on, and so to the last
-  abbrev lists-from-13 : Verdict
-  lists-from-13 = 13 when not (eqb (quad b 0) says)
+  -- its tests from the last, the one before it, and so on, up to the second
+  abbrev pub lists-from-13 : Verdict
+  lists-from-13 = 13 when not (eqb (quad b 0) listsSays)
 
-  abbrev lists-from-1 : Verdict
+  abbrev pub lists-from-1 : Verdict
   lists-from-1 = 1 when wrongSize (listsM b) (listsN b) then lists-from-13
 
-  abbrev lists-from-12 : Verdict
+  abbrev pub lists-from-12 : Verdict
   lists-from-12 = 12 when not (eqb (byte b 4) 1) then lists-from-1
 
-  abbrev lists-from-11 : Verdict
+  abbrev pub lists-from-11 : Verdict
   lists-from-11 = 11 when not (eqb (quad b 0) (length b - 4)) then lists-from-12
 
   pub numbered-lists : Numbered (listsHead b)
@@ -97,7 +102,7 @@ module _ (b : List ℕ) where
       (numbered-test 11 (not (eqb (quad b 0) (length b - 4))) lists-from-12 (omega arith)
       (numbered-test 12 (not (eqb (byte b 4) 1)) lists-from-1 (omega arith)
       (numbered-test 1 (wrongSize (listsM b) (listsN b)) lists-from-13 (omega arith)
-      (numbered-when 13 (not (eqb (quad b 0) says)) (omega arith)))))
+      (numbered-when 13 (not (eqb (quad b 0) listsSays)) (omega arith)))))
 
   pub lists-accepted : {x : ℕ} → x ≡ told (listsHead b) .number → x ≡ 0 → listsHead b ≡ accepted
   lists-accepted e none = told-zero (listsHead b) numbered-lists (sym e ∙ none)
@@ -116,6 +121,6 @@ module _ (b : List ℕ) where
       let after-1 = when-then 1 (wrongSize (listsM b) (listsN b)) lists-from-13 (after-12 .1) in
       let head : 8 ≤ length b = ltb-false (length b) 8 (after-10 .0) in
       let ends = eqb-true (quad b 0) (length b - 4) (not-false (eqb (quad b 0) (length b - 4)) (after-11 .0)) in
-      let after-13 = when-passes 13 (not (eqb (quad b 0) says)) (after-1 .1) in
-      let counts = eqb-true (quad b 0) says (not-false (eqb (quad b 0) says) after-13) in
+      let after-13 = when-passes 13 (not (eqb (quad b 0) listsSays)) (after-1 .1) in
+      let counts = eqb-true (quad b 0) listsSays (not-false (eqb (quad b 0) listsSays) after-13) in
       record { sizes = sized (listsM b) (listsN b) (after-1 .0); whole = omega arith }

@@ -1,30 +1,73 @@
--- `records::lists_head` meets its contract: at each way out the tests before it have passed (`HeadTests`). That m x n fits
--- is known from test 1, which comes before the product is made.
+-- `records::lists_head` meets its contract: at each way out the tests before it have passed, and what is left of them is
+-- known (`past-10` to `past-1`). That m x n fits is known from test 1, which comes before the product is made.
 -- Assumes nothing.
-use mathlib.Core.Bool.{false}
 use mathlib.Core.Path.{_≡_, sym, _∙_}
-use Prim.Native.Nat.{_*_, _≤_}
+use mathlib.Core.Bool.{false}
+use mathlib.Core.List.{List}
+use Prim.Native.Nat.{ℕ, _-_, _*_, _≤_}
 use native.Mathlib.Omega.{arith}
-use Rattle.model.specs.Refusals.{wrongSize}
+use lib.ListN.{length}
+use borrow.Author.Tests.{lt-ltb, le-ltb, eq-eqb, ne-eqb}
+use Rattle.model.specs.Refusals.{Verdict, wrongSize}
+use Rattle.model.specs.Records.{byte, quad, listsM, listsN, listsHead}
 use Rattle.laws.specs.Accepted.{sized, size-fits}
-use Rattle.records.proofs.HeadTests.{lists-10, lists-11, lists-12, lists-1, lists-13, lists-passes}
+use Rattle.records.specs.Heads.{listsSays, lists-from-11, lists-from-12, lists-from-1, lists-from-13}
 use Rattle.records.proofs.lists_head.Statement.{statement}
 use Rattle.records.proofs.lists_head.Tie as tie
 
--- test 1 passed, so m x n is small
-size-right : (c : tie.Else4) → wrongSize (c .before .before .before .lists-m .result) (c .before .before .lists-n .result) ≡ false
-size-right c =
-    let after-size = c .before in
-    sym (after-size .wrong-size .ensures) ∙ c .if4 .left
+-- the record that is lent
+abbrev lent : tie.Start → List ℕ
+lent c = c .args .lists .now
 
+-- these tests are left of its tests
+abbrev Left : tie.Start → (List ℕ → Verdict) → Type 0
+Left c tests = listsHead (lent c) ≡ tests (lent c)
+
+past-10 : (c : tie.Else1) → Left (c .before .before) lists-from-11
+unfolding listsHead
+past-10 c =
+    let b = lent (c .before .before) in
+    rw (le-ltb (length b) 8 (c .if1 .left))
+
+past-11 : (c : tie.Else2) → Left (c .before .before .before .before) lists-from-12
+past-11 c =
+    let b = lent (c .before .before .before .before) in
+    let else1 = c .before .before in
+    let after-length = c .before in
+    past-10 else1 ∙ rw (eq-eqb (quad b 0) (length b - 4) (rw (after-length .length-of .ensures) at (c .if2 .left)))
+
+past-12 : (c : tie.Else3) → Left (c .before .before .before .before .before .before) lists-from-1
+past-12 c =
+    let b = lent (c .before .before .before .before .before .before) in
+    let else2 = c .before .before in
+    past-11 else2 ∙ rw (eq-eqb (byte b 4) 1 (c .if3 .left))
+
+-- test 1 at the sizes of the record
+size-tested : (c : tie.After-wrong-size) → wrongSize (listsM (lent (c .before .before .before .before .before .before .before .before .before))) (listsN (lent (c .before .before .before .before .before .before .before .before .before))) ≡ c .wrong-size .result
+size-tested c =
+    let after-m = c .before .before in
+    let after-n = c .before in
+    rw (← (after-m .lists-m .ensures .0), ← (after-n .lists-n .ensures .0)) (sym (c .wrong-size .ensures))
+
+past-1 : (c : tie.Else4) → Left (c .before .before .before .before .before .before .before .before .before .before) lists-from-13
+past-1 c =
+    let else3 = c .before .before .before .before in
+    let after-size = c .before in
+    past-12 else3 ∙ rw (size-tested after-size ∙ c .if4 .left)
+
+-- m x n is small
 size-small : (c : tie.Else4) → c .before .before .before .lists-m .result * c .before .before .lists-n .result ≤ 8192
 size-small c =
     let after-m = c .before .before .before in
     let after-n = c .before .before in
-    size-fits (sized (after-m .lists-m .result) (after-n .lists-n .result) (size-right c))
+    let after-size = c .before in
+    size-fits (sized (after-m .lists-m .result) (after-n .lists-n .result) (sym (after-size .wrong-size .ensures) ∙ c .if4 .left))
 
 returns : tie.Need-returns
-returns c = lists-10 (c .before .before .args .lists .now) (c .if1 .taken)
+unfolding listsHead
+returns c =
+    let b = lent (c .before .before) in
+    rw (lt-ltb (length b) 8 (c .if1 .taken))
 
 sub-rest : tie.Need-sub-rest
 sub-rest c = omega arith
@@ -34,21 +77,19 @@ length-of-requires c κs = omega arith
 
 returns-2 : tie.Need-returns-2
 returns-2 c =
-    let b = c .before .before .before .before .args .lists .now in
+    let b = lent (c .before .before .before .before) in
     let else1 = c .before .before in
     let after-length = c .before in
-    lists-11 b (else1 .if1 .left) (after-length .length-of .ensures) (c .if2 .taken)
+    rw (past-10 else1, ne-eqb (quad b 0) (length b - 4) (rw (after-length .length-of .ensures) at (c .if2 .taken)))
 
 shared-slice-read-if3 : tie.Need-shared-slice-read-if3
 shared-slice-read-if3 c = omega arith
 
 returns-3 : tie.Need-returns-3
 returns-3 c =
-    let b = c .before .before .before .before .before .before .args .lists .now in
-    let else1 = c .before .before .before .before in
-    let after-length = c .before .before .before in
+    let b = lent (c .before .before .before .before .before .before) in
     let else2 = c .before .before in
-    lists-12 b (else1 .if1 .left) (after-length .length-of .ensures) (else2 .if2 .left) (c .if3 .taken)
+    rw (past-11 else2, ne-eqb (byte b 4) 1 (c .if3 .taken))
 
 lists-m-requires : tie.Need-lists-m-requires
 lists-m-requires c κs = omega arith
@@ -61,16 +102,10 @@ wrong-size-requires c κs = tt
 
 returns-4 : tie.Need-returns-4
 returns-4 c =
-    let b = c .before .before .before .before .before .before .before .before .before .before .args .lists .now in
-    let else1 = c .before .before .before .before .before .before .before .before in
-    let after-length = c .before .before .before .before .before .before .before in
-    let else2 = c .before .before .before .before .before .before in
     let else3 = c .before .before .before .before in
-    let after-m = c .before .before .before in
-    let after-n = c .before .before in
     let after-size = c .before in
-    lists-1 b (else1 .if1 .left) (after-length .length-of .ensures) (else2 .if2 .left) (else3 .if3 .left)
-    (after-m .lists-m .ensures .0) (after-n .lists-n .ensures .0) (sym (after-size .wrong-size .ensures) ∙ c .if4 .taken)
+    let wrong = size-tested after-size ∙ c .if4 .taken in
+    rw (past-12 else3, wrong)
 
 mul-if5 : tie.Need-mul-if5
 mul-if5 c = omega arith
@@ -89,29 +124,25 @@ add-if5-2 c = omega (arith, size-small c)
 
 returns-5 : tie.Need-returns-5
 returns-5 c =
-    let b = c .before .before .before .before .before .before .before .before .before .before .before .args .lists .now in
-    let else1 = c .before .before .before .before .before .before .before .before .before in
+    let b = lent (c .before .before .before .before .before .before .before .before .before .before .before) in
     let after-length = c .before .before .before .before .before .before .before .before in
-    let else2 = c .before .before .before .before .before .before .before in
-    let else3 = c .before .before .before .before .before in
     let after-m = c .before .before .before .before in
     let after-n = c .before .before .before in
-    lists-13 b (else1 .if1 .left) (after-length .length-of .ensures) (else2 .if2 .left) (else3 .if3 .left)
-    (after-m .lists-m .ensures .0) (after-n .lists-n .ensures .0)
-    (size-right (c .before)) (c .if5 .taken)
+    let else4 = c .before in
+    let miscounted =
+    rw (after-length .length-of .ensures, after-m .lists-m .ensures .0, after-n .lists-n .ensures .0) at (c .if5 .taken) in
+    rw (past-1 else4, ne-eqb (quad b 0) (listsSays b) miscounted)
 
 returns-6 : tie.Need-returns-6
 returns-6 c =
-    let b = c .before .before .before .before .before .before .before .before .before .before .before .args .lists .now in
-    let else1 = c .before .before .before .before .before .before .before .before .before in
+    let b = lent (c .before .before .before .before .before .before .before .before .before .before .before) in
     let after-length = c .before .before .before .before .before .before .before .before in
-    let else2 = c .before .before .before .before .before .before .before in
-    let else3 = c .before .before .before .before .before in
     let after-m = c .before .before .before .before in
     let after-n = c .before .before .before in
-    lists-passes b (else1 .if1 .left) (after-length .length-of .ensures) (else2 .if2 .left) (else3 .if3 .left)
-    (after-m .lists-m .ensures .0) (after-n .lists-n .ensures .0)
-    (size-right (c .before)) (c .if5 .left)
+    let else4 = c .before in
+    let counted =
+    rw (after-length .length-of .ensures, after-m .lists-m .ensures .0, after-n .lists-n .ensures .0) at (c .if5 .left) in
+    rw (past-1 else4, eq-eqb (quad b 0) (listsSays b) counted)
 
 pub lists-head-spec : {M : Type 1} → statement M
 lists-head-spec =
