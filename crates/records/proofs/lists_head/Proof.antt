@@ -2,9 +2,8 @@
 -- known (`past-10` to `past-1`). That m x n fits is known from test 1, which comes before the product is made.
 -- Assumes nothing.
 use mathlib.Core.Path.{_≡_, sym, _∙_}
-use mathlib.Core.Bool.{false}
 use mathlib.Core.List.{List}
-use Prim.Native.Nat.{ℕ, _-_, _*_, _≤_}
+use Prim.Native.Nat.{ℕ, _+_, _-_, _*_, _≤_}
 use native.Mathlib.Omega.{arith}
 use lib.ListN.{length}
 use borrow.Author.Tests.{lt-ltb, le-ltb, eq-eqb, ne-eqb}
@@ -62,6 +61,13 @@ size-small c =
     let after-n = c .before .before in
     let after-size = c .before in
     size-fits (sized (after-m .lists-m .result) (after-n .lists-n .result) (sym (after-size .wrong-size .ensures) ∙ c .if4 .left))
+
+-- what the length is compared with is what the counts say
+counted : (c : tie.Else4) → 4 + 2 * c .before .before .before .lists-m .result + 4 * (c .before .before .before .lists-m .result * c .before .before .lists-n .result) ≡ listsSays (lent (c .before .before .before .before .before .before .before .before .before .before))
+counted c =
+    let after-m = c .before .before .before in
+    let after-n = c .before .before in
+    rw (after-m .lists-m .ensures .0, after-n .lists-n .ensures .0)
 
 returns : tie.Need-returns
 unfolding listsHead
@@ -125,24 +131,16 @@ add-if5-2 c = omega (arith, size-small c)
 returns-5 : tie.Need-returns-5
 returns-5 c =
     let b = lent (c .before .before .before .before .before .before .before .before .before .before .before) in
-    let after-length = c .before .before .before .before .before .before .before .before in
-    let after-m = c .before .before .before .before in
-    let after-n = c .before .before .before in
+    let length-is = c .before .before .before .before .before .before .before .before .length-of .ensures in
     let else4 = c .before in
-    let miscounted =
-    rw (after-length .length-of .ensures, after-m .lists-m .ensures .0, after-n .lists-n .ensures .0) at (c .if5 .taken) in
-    rw (past-1 else4, ne-eqb (quad b 0) (listsSays b) miscounted)
+    rw (past-1 else4, ne-eqb (quad b 0) (listsSays b) (λ e. c .if5 .taken (length-is ∙ e ∙ sym (counted else4))))
 
 returns-6 : tie.Need-returns-6
 returns-6 c =
     let b = lent (c .before .before .before .before .before .before .before .before .before .before .before) in
-    let after-length = c .before .before .before .before .before .before .before .before in
-    let after-m = c .before .before .before .before in
-    let after-n = c .before .before .before in
+    let length-is = c .before .before .before .before .before .before .before .before .length-of .ensures in
     let else4 = c .before in
-    let counted =
-    rw (after-length .length-of .ensures, after-m .lists-m .ensures .0, after-n .lists-n .ensures .0) at (c .if5 .left) in
-    rw (past-1 else4, eq-eqb (quad b 0) (listsSays b) counted)
+    rw (past-1 else4, eq-eqb (quad b 0) (listsSays b) (sym length-is ∙ c .if5 .left ∙ counted else4))
 
 pub lists-head-spec : {M : Type 1} → statement M
 lists-head-spec =
