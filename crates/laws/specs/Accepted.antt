@@ -1,4 +1,5 @@
 -- What an accepted pose set keeps, and what its work slice holds.
+--     Sized, sized, size-fits     the sizes that test 1 lets pass, and m x n of them
 --     Valid            sizes and lengths; each entry is an item; place and item undo each other; each item has a place; scores
 --                      never rise over any distance
 --     valid            a pose set that the list check accepts is valid
