@@ -9,6 +9,7 @@
 --     first-most             `first` goes no further than p + f
 --     first-passes           where it stops before that, the test passes there
 --     first-skips            the test fails at each number that it has passed
+--     first-same                 two tests that agree
 --     first-within, first-is     it goes no further than a number that passes; where it stops
 -- Assumes nothing.
 use mathlib.Core.Path.{_≡_, refl, sym, subst, ap, _∙_}
@@ -130,3 +131,8 @@ first-is t f p q l h e none =
     let b = ltb-true (first t f p) q y in
     absurd (true≢false (sym (first-passes t f p (omega arith)) ∙ none (first t f p) (first-least t f p) b)))
     (λ n. omega (arith, ltb-false (first t f p) q n, first-within t f p q l e))
+
+pub first-same : (t u : ℕ → Bool) (f p : ℕ) → ((q : ℕ) → p ≤ q → q < p + f → t q ≡ u q) → first t f p ≡ first u f p
+unfolding first
+first-same t u zero p h = refl
+first-same t u (suc f) p h = rw (h p (omega arith) (omega arith), first-same t u f (suc p) (λ q l k. h q (omega arith) (omega arith)))

@@ -1,0 +1,1 @@
+// No code: what the searches owe stands in specs/.

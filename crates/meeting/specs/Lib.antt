@@ -1,0 +1,3 @@
+-- What the searches share.
+--     Contracts      the records that the functions' contracts cite
+pub mod Contracts

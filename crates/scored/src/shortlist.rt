@@ -1,0 +1,92 @@
+// The shortlist in its two slices: items, and their scores, by score falling, then item rising.
+ghost use mathlib.Core.Path.{_≡_};
+ghost use mathlib.Core.Bool.{_&&_, _||_};
+ghost use Prim.Native.Nat.{_+_, _≤_, _<_};
+ghost use lib.Dec.{ltb, eqb};
+ghost use lib.ListN.{length};
+ghost use Rattle.scored.specs.Contracts.{aheadOf, Seated, slid, Keeps, Inserted};
+
+// Item d of score x stands before item e of score y.
+fn ahead(d: u16, x: u32, e: u16, y: u32) -> bool
+    ensures { λ r. ⌜ r ≡ aheadOf d x e y ⌝ }
+{
+    if y < x {
+        return true;
+    }
+    if x < y {
+        return false;
+    }
+    d < e
+}
+
+// Where item d of score x belongs among the first `filled`: behind the last that it does not stand before.
+// Most items belong at the end, so the walk starts there.
+fn seat(d: u16, x: u32, filled: usize, picks: &[u16], lows: &[u32]) -> usize
+    requires { ⌜ (filled ≤ length (now picks)) × (filled ≤ length (now lows)) ⌝ }
+    ensures { λ r. ⌜ Seated d x filled (now (picks .entry)) (now (lows .entry)) r ⌝ }
+{
+    let mut j = filled;
+    while 0 < j {
+        let at = j - 1;
+        if ahead(d, x, picks[at], lows[at]) {
+            j = at;
+        } else {
+            return j;
+        }
+    }
+    j
+}
+
+// Puts v at `seat`, after moving what stands from there up to `last` one place on; what stood at `last` goes.
+fn slide_items(list: &mut [u16], seat: usize, last: usize, v: u16)
+    requires { ⌜ (seat ≤ last) × (last < length (now list)) ⌝ }
+    ensures { λ _. ⌜ now (list .exit) ≡ slid seat last v (now (list .entry)) ⌝ }
+{
+    let mut j = last;
+    while seat < j {
+        let from = j - 1;
+        list[j] = list[from];
+        j = from;
+    }
+    list[j] = v;
+}
+
+// The same for scores.
+fn slide_scores(list: &mut [u32], seat: usize, last: usize, v: u32)
+    requires { ⌜ (seat ≤ last) × (last < length (now list)) ⌝ }
+    ensures { λ _. ⌜ now (list .exit) ≡ slid seat last v (now (list .entry)) ⌝ }
+{
+    let mut j = last;
+    while seat < j {
+        let from = j - 1;
+        list[j] = list[from];
+        j = from;
+    }
+    list[j] = v;
+}
+
+// Where the last of k places stands once one more item is put among `filled`.
+fn last_place(filled: usize, k: usize) -> usize
+    requires { ⌜ 1 ≤ k ⌝ }
+    ensures { λ r. ⌜ ((filled < k → r ≡ filled) × (k ≤ filled → r + 1 ≡ k)) ⌝ }
+{
+    if filled < k {
+        return filled;
+    }
+    k - 1
+}
+
+// Item d of score x into the first k, and how many there are then. Seat k means that it is not kept.
+pub fn keep(d: u16, x: u32, k: usize, filled: usize, picks: &mut [u16], lows: &mut [u32]) -> usize
+    requires { ⌜ Keeps k filled (now picks) (now lows) ⌝ }
+    ensures { λ r. ⌜ Inserted d x k filled (now (picks .entry)) (now (lows .entry)) r (now (picks .exit)) (now (lows .exit)) ⌝ }
+{
+    let at = seat(d, x, filled, picks, lows);
+    if at == k {
+        return filled;
+    }
+    let last = last_place(filled, k);
+    slide_items(picks, at, last, d);
+    slide_scores(lows, at, last, x);
+    last + 1
+}
