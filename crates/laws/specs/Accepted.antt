@@ -1,4 +1,5 @@
 -- What an accepted pose set keeps, and what its work slice holds.
+--     Sized, sized, size-fits     the sizes that test 1 lets pass, and m x n of them
 --     Valid            sizes and lengths; each entry is an item; place and item undo each other; each item has a place; scores
 --                      never rise over any distance
 --     valid            a pose set that the list check accepts is valid
@@ -11,7 +12,7 @@ use mathlib.Core.Bool.{Bool, true, false, not, _&&_, _||_}
 use mathlib.Core.Logic.{⊎-elim}
 use mathlib.Core.List.{List}
 use Prim.Native.Nat.{ℕ, zero, suc, _+_, _-_, _*_, _≤_, _<_}
-use native.Mathlib.Nat.{not-suc-le-zero, eq-or-lt-of-le}
+use native.Mathlib.Nat.{not-suc-le-zero, eq-or-lt-of-le, mul-le-mul}
 use native.Mathlib.Numerals.{sub-one}
 use native.Mathlib.Omega.{arith}
 use lib.Dec.{eqb, leb, ltb}
@@ -45,6 +46,10 @@ sized m n e =
     let a = within-parts 1 8 m (p .0) in
     let b = within-parts 1 1024 n (p .1) in
     record { m-least = a .0; m-most = a .1; n-least = b .0; n-most = b .1 }
+
+-- m x n of such sizes
+pub size-fits : {m n : ℕ} → Sized m n → m * n ≤ 8192
+size-fits z = mul-le-mul (z .m-most) (z .n-most)
 
 pub long : (size : ℕ) (l : List ℕ) → short size l ≡ false → size ≤ length l
 unfolding short

@@ -19,6 +19,7 @@
 --     Opened     one name that opens all definitions of a search
 --     Cases      the worked cases as a search is lent them, and how a table of answers is tested
 --     SixteenRows, OtherCases, RefusedCases      the tables
+--     RecordCases    the two records and the chosen weights on small inputs, computed
 pub mod Tests
 pub mod Lists
 pub mod Verdicts
@@ -41,3 +42,4 @@ pub mod Cases
 pub mod SixteenRows
 pub mod OtherCases
 pub mod RefusedCases
+pub mod RecordCases

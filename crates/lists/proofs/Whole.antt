@@ -1,13 +1,11 @@
 -- The whole list check: its shape, then what `note_lists` promises of the lists.
 --     shape-1, shape-5-items, shape-5-scores, shape-6, shape-passes     the tests 1, 5, 6, from the comparisons that the code makes
---     size-fits                      m x n of sizes that test 1 lets pass
 --     refused-by-shape, accepted-lists, refused-lists                   what `check_lists` promises, in each of its three ways
 -- Assumes nothing.
 use mathlib.Core.Path.{_≡_, refl, sym, ap, _∙_}
 use mathlib.Core.Bool.{Bool, true, false, _||_, or-true}
 use mathlib.Core.List.{List, _++_}
 use Prim.Native.Nat.{ℕ, _*_, _≤_, _<_}
-use native.Mathlib.Nat.{mul-le-mul}
 use native.Mathlib.Omega.{arith}
 use lib.ListN.{length, drop, replicate, length-replicate}
 use borrow.Author.Tests.{lt-ltb, le-ltb}
@@ -16,12 +14,8 @@ use Rattle.model.specs.Given.{Poses}
 use Rattle.model.specs.Refusals.{Verdict, accepted, refused, wrongSize, short, noLists, inLists, checkShape, checkVerdict}
 use Rattle.model.specs.Answers.{Told, told, workChecked, workAfter, checked, checkedWork}
 use Rattle.laws.specs.Verdicts.{by-verdict, numbered-lists, told-zero}
-use Rattle.laws.specs.Accepted.{Sized}
 use Rattle.lists.specs.declared.Checked.{Checked}
 use Rattle.lists.specs.Contracts.{valueOf, ListsNoted, ListsChecked}
-
-pub size-fits : {m n : ℕ} → Sized m n → m * n ≤ 8192
-size-fits z = mul-le-mul (z .m-most) (z .n-most)
 
 module _ (s : Poses) (work : List ℕ) where
   pub shape-1 : wrongSize (s .m) (s .n) ≡ true → checkShape s work ≡ refused 1 0 0
