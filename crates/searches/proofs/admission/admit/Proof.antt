@@ -3,7 +3,7 @@
 use mathlib.Core.Path.{_≡_, refl, sym, _∙_}
 use borrow.Author.Needs.{needs}
 use lib.ListN.{length}
-use Rattle.searches.proofs.Admission.{admitted-refused, admitted-checked}
+use Rattle.searches.proofs.Tested.{admitted-refused, admitted-checked}
 use Rattle.searches.proofs.admission.admit.Statement.{statement}
 use Rattle.searches.proofs.admission.admit.Tie as tie
 
