@@ -1,29 +1,36 @@
 -- The tests of a search: from its own to those of the list check.
+--     weight-past        past the last weight there is none
 --     Flat, numbered-shape, flat-shape       a shape's refusal has a number that is not 0, and carries 0, 0
 --     Shape              what the tests 1 to 6 let pass
 --     shape-told         it, from a shape that is accepted
+--     numbered-search    a search's refusal has a number that is not 0
 --     check-shape        a search's shape that passes is one that the list check lets pass
 --     admitted-refused, admitted-checked     what `admit` promises, in its two ways
 -- Assumes nothing.
 use mathlib.Core.Path.{_≡_, refl, sym, ap, _∙_}
 use mathlib.Core.Bool.{Bool, true, false, _||_}
 use mathlib.Core.List.{List}
-use Prim.Native.Nat.{ℕ, _*_, _≤_, _<_}
+use Prim.Native.Nat.{ℕ, _+_, _*_, _≤_, _<_}
 use native.Mathlib.Omega.{arith}
 use lib.Dec.{eqb, ltb}
-use lib.ListN.{length}
+use lib.ListN.{length, getD, List·getD-eq-default}
 use borrow.Author.Tests.{ltb-false, le-ltb, eqb-true, eqb-false, not-false}
 use Rattle.model.specs.Words.{someBelow}
 use Rattle.model.specs.Given.{Poses}
-use Rattle.model.specs.Refusals.{Verdict, accepted, refused, _when_, _then_, Lent, posesOf, weightOf, wrongSize, wrongK, wrongRule, wrongWeights, short, noLists, inLists, searchShape, searchVerdict, checkShape, checkVerdict}
+use Rattle.model.specs.Refusals.{Verdict, accepted, refused, _when_, _then_, Lent, posesOf, pair, weightOf, wrongSize, wrongK, wrongRule, wrongWeights, short, noLists, inLists, searchShape, searchVerdict, checkShape, checkVerdict}
 use Rattle.model.specs.Answers.{Told, told, workChecked, workAfter, checked, checkedWork}
 use Rattle.laws.specs.Tests.{or-no, some-not}
-use Rattle.laws.specs.Verdicts.{when-passes, then-first, then-second, by-verdict, Numbered, numbered-when, numbered-then, told-zero}
+use Rattle.laws.specs.Verdicts.{when-passes, then-first, then-second, by-verdict, Numbered, numbered-when, numbered-then, numbered-lists, told-zero}
 use Rattle.laws.specs.Accepted.{Sized, sized}
 use Rattle.lists.specs.declared.Checked.{Checked}
 use Rattle.lists.specs.Contracts.{poses, valueOf, ListsChecked}
 use Rattle.lists.specs.Promises.{Accepted, accepted-promises, checked-lists}
 use Rattle.searches.specs.Contracts.{lentWith, noRoomOf, shapeOf, shape-is, Admitted}
+
+-- past the last weight there is none
+pub weight-past : (b : List ℕ) (m i : ℕ) → length b ≡ 2 * m → m ≤ i → weightOf b i ≡ 0
+unfolding weightOf pair
+weight-past b m i e h = rw (List·getD-eq-default b 0 {n = 2 * i} (omega arith), List·getD-eq-default b 0 {n = 2 * i + 1} (omega arith))
 
 -- a refusal that is met at no position
 abbrev Flat : Verdict → Type 0
@@ -111,7 +118,16 @@ module _ (m n rule k : ℕ) (weights : List ℕ) (items scores picks lows highs 
         lows-long = ltb-false lows k (r2 .1);
         highs-long = ltb-false highs k (r3 .1);
         tally-long = ltb-false tally (m * n) (r4 .1);
-        work-long = ltb-false work (m * n) (r5 .1) }
+        work-long = ltb-false work (m * n) (r5 .1);
+      }
+
+-- a search's refusal has a number that is not 0
+pub numbered-search : (l : Lent) → Numbered (searchVerdict l)
+unfolding searchVerdict
+numbered-search l =
+    numbered-then (searchShape l) (inLists (posesOf l))
+    (rw (shape-is l) (numbered-shape (l .m) (l .n) (l .rule) (l .k) (l .weights) (length (l .items)) (length (l .scores)) (length (l .picks)) (length (l .lows)) (length (l .highs)) (length (l .tally)) (length (l .work))))
+    (numbered-lists (posesOf l))
 
 -- the list check lets pass what passed a search's tests
 check-shape : (m n rule k : ℕ) (weights items scores work : List ℕ) (picks lows highs tally : ℕ) → Shape m n rule k weights (length items) (length scores) picks lows highs tally (length work) → checkShape (poses m n items scores) work ≡ accepted
@@ -132,15 +148,16 @@ module _ (m n rule k : ℕ) (weights items scores : List ℕ) (picks lows highs 
   admitted-refused number list position bad =
       let flat = flat-shape m n rule k weights (length items) (length scores) picks lows highs tally (length work) in
       let says : valueOf r ≡ told shape =
-        λ j. record { number = number j; list = (list ∙ sym (flat .0)) j; position = (position ∙ sym (flat .1)) j } in
+      λ j. record { number = number j; list = (list ∙ sym (flat .0)) j; position = (position ∙ sym (flat .1)) j } in
       by-verdict shape
       (λ (e : shape ≡ accepted). absurd (bad (number ∙ ap (λ (v : Verdict). told v .number) e)))
       (λ x i p (e : shape ≡ refused x i p).
-        record {
-          answers = λ a b c t ea eb ec et. says ∙ rw (shape-of a b c t ea eb ec et, e);
-          leaves = λ a b c t ea eb ec et. rw (shape-of a b c t ea eb ec et, e);
-          passes = λ z. absurd (bad z);
-          shaped = λ z. absurd (bad z) })
+      record {
+        answers = λ a b c t ea eb ec et. says ∙ rw (shape-of a b c t ea eb ec et, e);
+        leaves = λ a b c t ea eb ec et. rw (shape-of a b c t ea eb ec et, e);
+        passes = λ z. absurd (bad z);
+        shaped = λ z. absurd (bad z);
+      })
 
   pub admitted-checked : {after : List ℕ} → told shape .number ≡ 0 → ListsChecked (poses m n items scores) work r after → Admitted m n rule k weights items scores picks lows highs tally work r after
   unfolding searchVerdict workAfter posesOf
@@ -152,4 +169,5 @@ module _ (m n rule k : ℕ) (weights items scores : List ℕ) (picks lows highs 
         answers = λ a b c t ea eb ec et. both .0 ∙ rw (shape-of a b c t ea eb ec et, all);
         leaves = λ a b c t ea eb ec et. both .1 ∙ rw (shape-of a b c t ea eb ec et, all);
         passes = accepted-promises lists;
-        shaped = λ _. all }
+        shaped = λ _. all;
+      }

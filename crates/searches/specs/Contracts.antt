@@ -31,7 +31,8 @@ lentWith m n rule k weights items scores picks lows highs tally work =
       lows = lows;
       highs = highs;
       tally = tally;
-      work = work }
+      work = work;
+    }
 
 -- the weights as numbers, list by list, and 0 past the last
 pub record Decoded (bytes numbers : List ℕ) : Type 0 where

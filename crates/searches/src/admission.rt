@@ -5,7 +5,6 @@ ghost use lib.ListN.{length, getD};
 ghost use Rattle.model.specs.Refusals.{pair as pairOf, wrongK, wrongRule, wrongWeights, weightOf};
 ghost use Rattle.model.specs.Answers.{told};
 ghost use Rattle.searches.specs.Contracts.{noRoomOf, shapeOf, Decoded, Admitted};
-
 use lists::Checked;
 
 fn wide(x: u8) -> u32
@@ -66,7 +65,15 @@ pub fn decode(m: usize, weights: &[u8]) -> [u32; 8]
 }
 
 // A slice of each length is lent: under k places for the shortlist, under m x n for the tally and the work slice.
-fn no_room(k: usize, size: usize, picks: usize, lows: usize, highs: usize, tally: usize, work: usize) -> bool
+fn no_room(
+    k: usize,
+    size: usize,
+    picks: usize,
+    lows: usize,
+    highs: usize,
+    tally: usize,
+    work: usize,
+) -> bool
     ensures { λ r. ⌜ r ≡ noRoomOf k size picks lows highs tally work ⌝ }
 {
     if picks < k {
@@ -143,7 +150,20 @@ pub fn admit(
 ) -> Checked
     ensures { λ r. ⌜ Admitted m n rule k (now (weights .entry)) (now (items .entry)) (now (scores .entry)) picks lows highs tally (now (work .entry)) r (now (work .exit)) ⌝ }
 {
-    let number = shape(m, n, rule, k, weights, items.len(), scores.len(), picks, lows, highs, tally, work.len());
+    let number = shape(
+        m,
+        n,
+        rule,
+        k,
+        weights,
+        items.len(),
+        scores.len(),
+        picks,
+        lows,
+        highs,
+        tally,
+        work.len(),
+    );
     if number != 0 {
         return Checked {
             number,

@@ -1,2 +1,227 @@
 // The four searches.
 mod admission;
+
+use lists::Checked;
+use meeting::Direct;
+use meeting::Done;
+use meeting::Random;
+use meeting::Sorted;
+ghost use mathlib.Core.Path.{_≡_};
+ghost use Prim.Native.Nat.{ℕ, _+_, _≤_};
+ghost use lib.ListN.{length, take};
+ghost use Rattle.model.specs.Words.{over};
+ghost use Rattle.model.specs.Searches.{TA, BPA, BPA2};
+ghost use Rattle.scored.specs.Run.{searchBy};
+ghost use Rattle.searches.specs.Contracts.{lentWith};
+ghost use Rattle.searches.specs.Answered.{RefusedBy, Tells, Searched};
+
+// What a search gives back beside the slices: 0 or the number of a refusal with its list and position, the rows
+// or rounds, and the accesses by kind.
+pub struct Answer {
+    pub number: u32,
+    pub list: u32,
+    pub position: u32,
+    pub rows: u32,
+    pub sorted: Sorted,
+    pub direct: Direct,
+    pub random: Random,
+}
+
+// All numbers but the refusal's own are 0.
+fn refused(c: Checked) -> Answer
+    ensures { λ r. ⌜ RefusedBy c r ⌝ }
+{
+    Answer {
+        number: c.number,
+        list: c.list,
+        position: c.position,
+        rows: 0,
+        sorted: Sorted(0),
+        direct: Direct(0),
+        random: Random(0),
+    }
+}
+
+// What a search that is not refused has done.
+fn found(d: Done) -> Answer
+    ensures { λ r. ⌜ Tells d r ⌝ }
+{
+    Answer {
+        number: 0,
+        list: 0,
+        position: 0,
+        rows: d.rows,
+        sorted: Sorted(d.sorted.0),
+        direct: Direct(d.direct.0),
+        random: Random(d.random.0),
+    }
+}
+
+// Whole scores are known, so the highs are the lows.
+fn repeat_lows(k: usize, lows: &[u32], highs: &mut [u32])
+    requires { ⌜ (k ≤ length (now lows)) × (k ≤ length (now highs)) ⌝ }
+    ensures { λ _. ⌜ now (highs .exit) ≡ over (take k (now (lows .entry))) (now (highs .entry)) ⌝ }
+{
+    let mut i = 0;
+    while i < k {
+        highs[i] = lows[i];
+        i += 1;
+    }
+}
+
+// TA, BPA or BPA2, by its number: the tests, the run, and the highs.
+fn by_score(
+    which: u8,
+    m: usize,
+    n: usize,
+    items: &[u16],
+    scores: &[u16],
+    rule: u8,
+    k: usize,
+    weights: &[u8],
+    picks: &mut [u16],
+    lows: &mut [u32],
+    highs: &mut [u32],
+    tally: &mut [u8],
+    work: &mut [u16],
+) -> Answer
+    requires { ⌜ which ≤ 2 ⌝ }
+    ensures { λ r. ⌜ Searched (searchBy which) (lentWith m n rule k (now (weights .entry)) (now (items .entry)) (now (scores .entry)) (now (picks .entry)) (now (lows .entry)) (now (highs .entry)) (now (tally .entry)) (now (work .entry))) r (now (picks .exit)) (now (lows .exit)) (now (highs .exit)) (now (tally .exit)) (now (work .exit)) ⌝ }
+{
+    let tested = admission::admit(
+        m,
+        n,
+        rule,
+        k,
+        weights,
+        items,
+        scores,
+        picks.len(),
+        lows.len(),
+        highs.len(),
+        tally.len(),
+        work,
+    );
+    if tested.number != 0 {
+        return refused(tested);
+    }
+    let numbers = admission::decode(m, weights);
+    let done = scored::run(
+        which,
+        m,
+        n,
+        rule,
+        numbers,
+        k,
+        items,
+        scores,
+        picks,
+        lows,
+        tally,
+        work,
+    );
+    repeat_lows(k, lows, highs);
+    found(done)
+}
+
+// The threshold algorithm: rows by sorted access, each new item looked up in every other list.
+pub fn ta(
+    m: usize,
+    n: usize,
+    items: &[u16],
+    scores: &[u16],
+    rule: u8,
+    k: usize,
+    weights: &[u8],
+    picks: &mut [u16],
+    lows: &mut [u32],
+    highs: &mut [u32],
+    tally: &mut [u8],
+    work: &mut [u16],
+) -> Answer
+    ensures { λ r. ⌜ Searched TA (lentWith m n rule k (now (weights .entry)) (now (items .entry)) (now (scores .entry)) (now (picks .entry)) (now (lows .entry)) (now (highs .entry)) (now (tally .entry)) (now (work .entry))) r (now (picks .exit)) (now (lows .exit)) (now (highs .exit)) (now (tally .exit)) (now (work .exit)) ⌝ }
+{
+    by_score(
+        scored::TA,
+        m,
+        n,
+        items,
+        scores,
+        rule,
+        k,
+        weights,
+        picks,
+        lows,
+        highs,
+        tally,
+        work,
+    )
+}
+
+// The best position algorithm: TA with the threshold at the lists' best positions.
+pub fn bpa(
+    m: usize,
+    n: usize,
+    items: &[u16],
+    scores: &[u16],
+    rule: u8,
+    k: usize,
+    weights: &[u8],
+    picks: &mut [u16],
+    lows: &mut [u32],
+    highs: &mut [u32],
+    tally: &mut [u8],
+    work: &mut [u16],
+) -> Answer
+    ensures { λ r. ⌜ Searched BPA (lentWith m n rule k (now (weights .entry)) (now (items .entry)) (now (scores .entry)) (now (picks .entry)) (now (lows .entry)) (now (highs .entry)) (now (tally .entry)) (now (work .entry))) r (now (picks .exit)) (now (lows .exit)) (now (highs .exit)) (now (tally .exit)) (now (work .exit)) ⌝ }
+{
+    by_score(
+        scored::BPA,
+        m,
+        n,
+        items,
+        scores,
+        rule,
+        k,
+        weights,
+        picks,
+        lows,
+        highs,
+        tally,
+        work,
+    )
+}
+
+// BPA2: each round reads the first position of a list that was not visited.
+pub fn bpa2(
+    m: usize,
+    n: usize,
+    items: &[u16],
+    scores: &[u16],
+    rule: u8,
+    k: usize,
+    weights: &[u8],
+    picks: &mut [u16],
+    lows: &mut [u32],
+    highs: &mut [u32],
+    tally: &mut [u8],
+    work: &mut [u16],
+) -> Answer
+    ensures { λ r. ⌜ Searched BPA2 (lentWith m n rule k (now (weights .entry)) (now (items .entry)) (now (scores .entry)) (now (picks .entry)) (now (lows .entry)) (now (highs .entry)) (now (tally .entry)) (now (work .entry))) r (now (picks .exit)) (now (lows .exit)) (now (highs .exit)) (now (tally .exit)) (now (work .exit)) ⌝ }
+{
+    by_score(
+        scored::BPA2,
+        m,
+        n,
+        items,
+        scores,
+        rule,
+        k,
+        weights,
+        picks,
+        lows,
+        highs,
+        tally,
+        work,
+    )
+}

@@ -7,11 +7,12 @@ use Prim.Native.Nat.{ℕ, zero, suc, _+_, _-_, _*_, _≤_, _<_}
 use native.Mathlib.Numerals.{add-one}
 use native.Mathlib.Omega.{arith}
 use lib.Dec.{ltb}
-use lib.ListN.{length, getD, set, replicate, length-set, length-replicate, List·getD-eq-default}
+use lib.ListN.{length, getD, set, replicate, length-set, length-replicate}
 use lib.Seq.{getD-set-same, getD-set-other}
 use borrow.Author.Tests.{ltb-true, ltb-false}
-use Rattle.model.specs.Refusals.{pair, weightOf}
+use Rattle.model.specs.Refusals.{weightOf}
 use Rattle.laws.specs.Tests.{by-cases, below-suc}
+use Rattle.searches.proofs.Tested.{weight-past}
 use Rattle.searches.proofs.admission.decode.Statement.{statement}
 use Rattle.searches.proofs.admission.decode.Tie as tie
 
@@ -26,11 +27,6 @@ zeros-at : (n i : ℕ) → _≡_ {A = ℕ} (getD (replicate n 0) i 0) 0
 zeros-at zero i = refl
 zeros-at (suc n) zero = refl
 zeros-at (suc n) (suc i) = zeros-at n i
-
--- past the last weight there is none
-weight-past : (b : List ℕ) (m i : ℕ) → length b ≡ 2 * m → m ≤ i → weightOf b i ≡ 0
-unfolding weightOf pair
-weight-past b m i e h = rw (List·getD-eq-default b 0 {n = 2 * i} (omega arith), List·getD-eq-default b 0 {n = 2 * i + 1} (omega arith))
 
 loop-holds : tie.Need-loop-holds Inv-loop μ-loop
 loop-holds c = (omega arith, length-replicate {A = ℕ} 8 0, λ j h. absurd (omega arith), λ j h. zeros-at 8 j)
@@ -79,14 +75,15 @@ loop-again c =
     let i = at-loop .loop .i in
     let numbers = at-loop .loop .numbers in
     let w = after-pair .pair .result in
-    let inside : i < length numbers = omega (arith, at-loop .loop .inv .1, in-turn .loop-test .taken, at-start .pre .0) in
-    (omega (arith, in-turn .loop-test .taken),
-    simp length-set (at-loop .loop .inv .1),
-    λ j h.
-      below-suc j i (rw (add-one i) at h)
-      (λ (l : j < i). getD-set-other numbers i j w 0 (λ e. omega arith) ∙ at-loop .loop .inv .2 j l)
-      (λ (e : j ≡ i). rw e (getD-set-same numbers i w 0 inside ∙ after-pair .pair .ensures)),
-    λ j h. getD-set-other numbers i j w 0 (λ e. omega arith) ∙ at-loop .loop .inv .3 j (omega arith))
+    let inside : i < length numbers = omega (arith, at-loop .loop .inv .1, in-turn .loop-test .taken, at-start .pre .0) in (
+      omega (arith, in-turn .loop-test .taken),
+      simp length-set (at-loop .loop .inv .1),
+      λ j h.
+          below-suc j i (rw (add-one i) at h)
+          (λ (l : j < i). getD-set-other numbers i j w 0 (λ e. omega arith) ∙ at-loop .loop .inv .2 j l)
+          (λ (e : j ≡ i). rw e (getD-set-same numbers i w 0 inside ∙ after-pair .pair .ensures)),
+      λ j h. getD-set-other numbers i j w 0 (λ e. omega arith) ∙ at-loop .loop .inv .3 j (omega arith),
+    )
 
 returns : tie.Need-returns Inv-loop μ-loop
 returns c =
@@ -95,11 +92,12 @@ returns c =
     let whole : at-loop .loop .i ≡ at-start .args .m = omega (arith, at-loop .loop .inv .0) in
     record {
       weight = λ j.
-        by-cases (ltb j (at-loop .loop .i))
-        (λ y. at-loop .loop .inv .2 j (ltb-true j (at-loop .loop .i) y))
-        (λ z.
+          by-cases (ltb j (at-loop .loop .i))
+          (λ y. at-loop .loop .inv .2 j (ltb-true j (at-loop .loop .i) y))
+          (λ z.
           let past = ltb-false j (at-loop .loop .i) z in
-          at-loop .loop .inv .3 j past ∙ sym (weight-past (at-start .args .weights .now) (at-start .args .m) j (at-start .pre .1) (omega arith))) }
+          at-loop .loop .inv .3 j past ∙ sym (weight-past (at-start .args .weights .now) (at-start .args .m) j (at-start .pre .1) (omega arith)));
+    }
 
 pub decode-spec : {M : Type 1} → statement M
 decode-spec =

@@ -75,10 +75,11 @@ loop-again c =
     let in-turn = c .before .before in
     let at-start = c .before .before .before .before .before .before in
     let at-loop = c .before .before .before in
-    let after-pair = c .before in
-    (omega (arith, in-turn .loop-test .taken),
-    below-more (λ j. ltb 1000 (weightOf (at-start .args .weights .now) j) ≡ false) (at-loop .loop .i) (at-loop .loop .inv .1)
-    (le-ltb 1000 (weightOf (at-start .args .weights .now) (at-loop .loop .i)) (rw (after-pair .pair .ensures) at (c .if2 .left))))
+    let after-pair = c .before in (
+      omega (arith, in-turn .loop-test .taken),
+      below-more (λ j. ltb 1000 (weightOf (at-start .args .weights .now) j) ≡ false) (at-loop .loop .i) (at-loop .loop .inv .1)
+          (le-ltb 1000 (weightOf (at-start .args .weights .now) (at-loop .loop .i)) (rw (after-pair .pair .ensures) at (c .if2 .left))),
+    )
 
 returns-3 : tie.Need-returns-3 Inv-loop μ-loop
 unfolding wrongWeights

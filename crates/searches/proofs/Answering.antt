@@ -1,0 +1,186 @@
+-- From what the parts of a search promise to what the search promises.
+--     refused-answer     a search that the tests refuse
+--     Passed, passed     what the tests let pass: the query is the one lent, the lists may be read, the slices have room
+--     same-query         the query of the decoded weights is the one lent
+--     kept-k             TA, BPA and BPA2 keep k items when they stop
+--     found-answer       a search that runs
+--     searched-as        a search by its number is the search by its name
+-- Assumes nothing.
+use mathlib.Core.Path.{_≡_, refl, sym, ap, subst, _∙_}
+use mathlib.Core.Bool.{true, false, not}
+use mathlib.Core.List.{List, [], _∷_, map}
+use Prim.Native.Nat.{ℕ, zero, suc, _+_, _*_, _≤_, _<_}
+use native.Mathlib.Omega.{arith}
+use lib.Dec.{eqb, ltb}
+use lib.ListN.{length, getD, take, drop, length-map, List·getD-eq-default}
+use lib.Seq.{take-append-seam}
+use borrow.Author.Tests.{ltb-true, ltb-false, eqb-true, eqb-false, not-false}
+use Rattle.model.specs.Words.{over, someBelow}
+use Rattle.model.specs.Given.{Poses, Query, total}
+use Rattle.model.specs.Accesses.{sorted, direct, random, made, tally}
+use Rattle.model.specs.Searches.{Search, kept, rows, byScore, TA, BPA, BPA2}
+use Rattle.model.specs.Refusals.{Verdict, accepted, refused, Lent, posesOf, queryOf, pair, weightOf, wrongK, wrongWeights, inLists, searchShape, searchVerdict}
+use Rattle.model.specs.Answers.{Told, told, Place, Found, found, foundAfter, searchOf, answering, answer, written, workAfter, slices, slicesWith}
+use Rattle.laws.specs.Tests.{by-cases, or-no, some-not}
+use Rattle.laws.specs.Verdicts.{by-verdict, told-zero}
+use Rattle.laws.specs.Accepted.{Valid, Placed}
+use Rattle.lists.specs.declared.Checked.{Checked}
+use Rattle.lists.specs.Contracts.{poses, valueOf}
+use Rattle.demands.specs.Promised.{promised}
+use Rattle.meeting.specs.declared.Done.{Done}
+use Rattle.meeting.specs.Contracts.{queryWith, Readable}
+use Rattle.scored.specs.Run.{stepsBy, searchBy, search-ta, search-bpa, search-bpa2, Ran}
+use Rattle.searches.specs.declared.Answer.{Answer}
+use Rattle.searches.specs.Contracts.{lentWith, Decoded, shapeOf, Admitted}
+use Rattle.searches.specs.Answered.{RefusedBy, Tells, Searched}
+use Rattle.searches.proofs.Tested.{weight-past, numbered-search, Shape, shape-told}
+
+pub refused-answer : (r : Poses → Query → Search) (l : Lent) (c : Checked) (a : Answer) (work : List ℕ) → RefusedBy c a → (c .number ≡ 0 → ⊥) → valueOf c ≡ told (searchVerdict l) → work ≡ workAfter (searchShape l) (posesOf l) (l .work) → Searched r l a (l .picks) (l .lows) (l .highs) (l .tally) work
+unfolding answer answering slices slicesWith written
+refused-answer r l c a work t bad says left =
+    by-verdict (searchVerdict l)
+    (λ (e : searchVerdict l ≡ accepted). absurd (bad (ap (λ (x : Told). x .number) says ∙ ap (λ (v : Verdict). told v .number) e)))
+    (λ x i p (e : searchVerdict l ≡ refused x i p).
+    let same = says ∙ ap told e in
+    record {
+      number-is = rw e (t .number-is ∙ ap (λ (x : Told). x .number) same);
+      list-is = rw e (t .list-is ∙ ap (λ (x : Told). x .list) same);
+      position-is = rw e (t .position-is ∙ ap (λ (x : Told). x .position) same);
+      rows-are = rw e (t .rows-are);
+      sorted-are = rw e (t .sorted-are);
+      direct-are = rw e (t .direct-are);
+      random-are = rw e (t .random-are);
+      picks-are = rw e;
+      lows-are = rw e;
+      highs-are = rw e;
+      tally-is = rw e;
+      work-is = left;
+    })
+
+-- what the weights' test lets pass: they are 2m bytes, and no weight is above 1,000. Past the last there is none
+weights-long : (m : ℕ) (bytes : List ℕ) → wrongWeights m bytes ≡ false → length bytes ≡ 2 * m
+unfolding wrongWeights
+weights-long m bytes right =
+    let both = or-no (not (eqb (length bytes) (2 * m))) (someBelow (λ i. ltb 1000 (weightOf bytes i)) m) right in
+    eqb-true (length bytes) (2 * m) (not-false (eqb (length bytes) (2 * m)) (both .0))
+
+weight-small : (m : ℕ) (bytes : List ℕ) → wrongWeights m bytes ≡ false → (i : ℕ) → weightOf bytes i ≤ 1000
+unfolding wrongWeights
+weight-small m bytes right i =
+    let both = or-no (not (eqb (length bytes) (2 * m))) (someBelow (λ i. ltb 1000 (weightOf bytes i)) m) right in
+    by-cases (ltb i m)
+    (λ (y : ltb i m ≡ true). ltb-false 1000 (weightOf bytes i) (some-not (λ i. ltb 1000 (weightOf bytes i)) m i (both .1) (ltb-true i m y)))
+    (λ (z : ltb i m ≡ false). omega (arith, weight-past bytes m i (weights-long m bytes right) (ltb-false i m z)))
+
+-- the query of the decoded weights is the one lent
+pub same-query : (l : Lent) (numbers : List ℕ) → Decoded (l .weights) numbers → queryWith (l .rule) numbers ≡ queryOf l
+unfolding queryOf
+same-query l numbers d = λ j. record { rule = l .rule; weight = λ i. d .weight i j }
+
+map-map : {A B C : Type 0} (f : A → B) (g : B → C) (l : List A) → map g (map f l) ≡ map (λ x. g (f x)) l
+map-map f g [] = refl
+map-map {C = C} f g (x ∷ l) = ap (λ (k : List C). g (f x) ∷ k) (map-map f g l)
+
+map-id : (l : List ℕ) → map (λ (x : ℕ). x) l ≡ l
+map-id [] = refl
+map-id (x ∷ l) = ap (λ (k : List ℕ). x ∷ k) (map-id l)
+
+-- TA, BPA and BPA2 keep k items when they stop
+pub kept-k : (which : ℕ) (s : Poses) (q : Query) (k : ℕ) → which ≤ 2 → Valid s → 1 ≤ k → k ≤ s .n → length (kept s k (searchBy which s q) (rows s k (searchBy which s q))) ≡ k
+kept-k zero s q k h v some most = rw (search-ta s q) (promised s v q k some most .ta .size)
+kept-k (suc zero) s q k h v some most = rw (search-bpa s q) (promised s v q k some most .bpa .size)
+kept-k (suc (suc zero)) s q k h v some most = rw (search-bpa2 s q) (promised s v q k some most .bpa2 .size)
+kept-k (suc (suc (suc which))) s q k h v some most = absurd (omega (arith, h))
+
+positive : (k : ℕ) → (k ≡ 0 → ⊥) → 1 ≤ k
+positive zero some = absurd (some refl)
+positive (suc k) some = omega arith
+
+-- What the tests of a search let pass, with whatever slices of these lengths
+pub record Passed (m n rule k : ℕ) (weights items scores : List ℕ) (picks lows highs tally : ℕ) (work after : List ℕ) : Type 0 where
+  pub lists-valid : Valid (poses m n items scores)
+  pub work-placed : Placed (poses m n items scores) after
+  pub k-least : 1 ≤ k
+  pub k-most : k ≤ n
+  pub weights-length : length weights ≡ 2 * m
+  pub weights-small : (i : ℕ) → weightOf weights i ≤ 1000
+  pub picks-long : k ≤ picks
+  pub lows-long : k ≤ lows
+  pub highs-long : k ≤ highs
+  pub tally-long : m * n ≤ tally
+  pub shaped : shapeOf m n rule k weights (length items) (length scores) picks lows highs tally (length work) ≡ accepted
+
+pub passed : {m n rule k : ℕ} {weights items scores : List ℕ} {picks lows highs tally : ℕ} {work : List ℕ} {r : Checked} {after : List ℕ} → Admitted m n rule k weights items scores picks lows highs tally work r after → r .number ≡ 0 → Passed m n rule k weights items scores picks lows highs tally work after
+unfolding wrongK
+passed {m} {n} {rule} {k} {weights} {items} {scores} {picks} {lows} {highs} {tally} {work} a none =
+    let all = a .shaped none in
+    let h = shape-told m n rule k weights (length items) (length scores) picks lows highs tally (length work) all in
+    let ks = or-no (eqb k 0) (ltb n k) (h .k-right) in
+    let some : k ≡ 0 → ⊥ = eqb-false k 0 (ks .0) in
+    record {
+      lists-valid = a .passes none .lists-valid;
+      work-placed = a .passes none .work-placed;
+      k-least = positive k some;
+      k-most = ltb-false n k (ks .1);
+      weights-length = weights-long m weights (h .weights-right);
+      weights-small = weight-small m weights (h .weights-right);
+      picks-long = h .picks-long;
+      lows-long = h .lows-long;
+      highs-long = h .highs-long;
+      tally-long = h .tally-long;
+      shaped = all;
+    }
+
+-- a search that is not refused: the verdict is that it is accepted
+verdict-none : (l : Lent) (c : Checked) → c .number ≡ 0 → valueOf c ≡ told (searchVerdict l) → searchVerdict l ≡ accepted
+verdict-none l c none says = told-zero (searchVerdict l) (numbered-search l) (sym (ap (λ (x : Told). x .number) says) ∙ none)
+
+-- a place of the shortlist of a search that looks whole scores up
+abbrev placeOf : Poses → Query → ℕ → Place
+placeOf s q d = record { item = d; low = total s q d; high = total s q d }
+
+-- the lows, written over what was lent, are read back
+lows-taken : (l lent : List ℕ) (k : ℕ) → length l ≡ k → take k (over l lent) ≡ l
+unfolding over
+lows-taken l lent k e = rw (← e) (take-append-seam l (drop (length l) lent))
+
+pub found-answer : (which : ℕ) (l : Lent) (c : Checked) (numbers : List ℕ) (d : Done) (a : Answer) (picks lows highs marks work : List ℕ)
+    → which ≤ 2 → Valid (posesOf l) → 1 ≤ l .k → l .k ≤ l .n → c .number ≡ 0 → valueOf c ≡ told (searchVerdict l)
+    → Decoded (l .weights) numbers → Ran which (posesOf l) (queryWith (l .rule) numbers) (l .k) (l .picks) (l .lows) (l .tally) d picks lows marks
+    → highs ≡ over (take (l .k) lows) (l .highs) → Tells d a → work ≡ workAfter (searchShape l) (posesOf l) (l .work)
+    → Searched (searchBy which) l a picks lows highs marks work
+unfolding answer answering slices slicesWith written found foundAfter searchOf searchBy byScore posesOf
+found-answer which l c numbers d a picks lows highs marks work named v some most none says decoded ran copied t left =
+    let e = verdict-none l c none says in
+    let s = posesOf l in
+    let q = queryOf l in
+    let k = l .k in
+    let ran′ = subst (λ (x : Query). Ran which s x k (l .picks) (l .lows) (l .tally) d picks lows marks) (same-query l numbers decoded) ran in
+    let p = ran′ .rows-are in
+    let best = kept s k (searchBy which s q) (rows s k (searchBy which s q)) in
+    let picks-are : picks ≡ over best (l .picks) = rw (← p) (ran′ .picks-are) in
+    let lows-are : lows ≡ over (map (total s q) best) (l .lows) = rw (← p) (ran′ .lows-are) in
+    let item-map : map (λ (x : Place). x .item) (map (placeOf s q) best) ≡ best = map-map (placeOf s q) (λ (x : Place). x .item) best ∙ map-id best in
+    let low-map : map (λ (x : Place). x .low) (map (placeOf s q) best) ≡ map (total s q) best = map-map (placeOf s q) (λ (x : Place). x .low) best in
+    let high-map : map (λ (x : Place). x .high) (map (placeOf s q) best) ≡ map (total s q) best = map-map (placeOf s q) (λ (x : Place). x .high) best in
+    let size : length (map (total s q) best) ≡ k = length-map best (total s q) ∙ kept-k which s q k named v some most in
+    let highs-are : highs ≡ over (map (total s q) best) (l .highs) =
+    copied ∙ ap (λ (x : List ℕ). over x (l .highs)) (ap (take k) lows-are ∙ lows-taken (map (total s q) best) (l .lows) k size) in
+    record {
+      number-is = rw e (t .number-is);
+      list-is = rw e (t .list-is);
+      position-is = rw e (t .position-is);
+      rows-are = rw e (t .rows-are ∙ p);
+      sorted-are = rw (e, ← p) (t .sorted-are ∙ ran′ .sorted-are);
+      direct-are = rw (e, ← p) (t .direct-are ∙ ran′ .direct-are);
+      random-are = rw (e, ← p) (t .random-are ∙ ran′ .random-are);
+      picks-are = rw (e, item-map) picks-are;
+      lows-are = rw (e, low-map) lows-are;
+      highs-are = rw (e, high-map) highs-are;
+      tally-is = rw (e, ← p) (ran′ .tally-is);
+      work-is = left;
+    }
+
+-- a search by another name is the same search
+pub searched-as : (r r′ : Poses → Query → Search) (l : Lent) (a : Answer) (picks lows highs marks work : List ℕ) → ((s : Poses) (q : Query) → r s q ≡ r′ s q) → Searched r l a picks lows highs marks work → Searched r′ l a picks lows highs marks work
+searched-as r r′ l a picks lows highs marks work same = subst (λ (x : Poses → Query → Search). Searched x l a picks lows highs marks work) (λ j s q. same s q j)

@@ -1,0 +1,44 @@
+-- `searches::ta` meets its contract: it is the search of its number.
+-- Assumes nothing.
+use native.Mathlib.Omega.{arith}
+use borrow.Author.Needs.{needs}
+use Rattle.model.specs.Searches.{TA}
+use Rattle.scored.specs.Run.{searchBy, search-ta}
+use Rattle.searches.proofs.Answering.{searched-as}
+use Rattle.searches.proofs.ta.Statement.{statement}
+use Rattle.searches.proofs.ta.Tie as tie
+
+by-score-requires : tie.Need-by-score-requires
+by-score-requires c κs = omega arith
+
+same-length : tie.Need-same-length
+same-length c = search needs
+
+same-length-2 : tie.Need-same-length-2
+same-length-2 c = search needs
+
+same-length-3 : tie.Need-same-length-3
+same-length-3 c = search needs
+
+same-length-4 : tie.Need-same-length-4
+same-length-4 c = search needs
+
+same-length-5 : tie.Need-same-length-5
+same-length-5 c = search needs
+
+returns : tie.Need-returns
+returns c =
+    let after-by-score = c .before .before .before .before .before .before .before .before .before .before in
+    searched-as (searchBy 0) TA _ _ _ _ _ _ _ search-ta (after-by-score .by-score .ensures)
+
+pub ta-spec : {M : Type 1} → statement M
+ta-spec =
+    tie.close
+    (tie.spec
+    by-score-requires
+    same-length
+    same-length-2
+    same-length-3
+    same-length-4
+    same-length-5
+    returns)
