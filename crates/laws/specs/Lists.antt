@@ -3,24 +3,26 @@
 --     row-set, row-zeros                 a store into a row; a row of zeros
 --     table-length, table-at             a table's length and its entries
 --     table-room                         list i's row lies within the table
+--     table-same, table-set, table-of    two tables with the same entries; a store into a table; any long enough slice as a table
+--     two-places                         two entries of a table at one place are one entry
 --     count-append, count-set            a count over two lists; after a store that makes one more pass
 --     count-full                         where a count is the whole length, each entry passes
 --     over-length, over-at               a slice written over keeps its length; what stands in its first part
 -- Assumes nothing.
 use mathlib.Core.Path.{_≡_, refl, sym, ap, _∙_}
-use mathlib.Core.Bool.{Bool, true, false, cond}
+use mathlib.Core.Bool.{Bool, true, false, cond, _&&_, true≢false}
 use mathlib.Core.Logic.{_≢_}
 use mathlib.Core.List.{List, [], _∷_, _++_, append-nil}
 use Prim.Native.Nat.{ℕ, zero, suc, _+_, _-_, _*_, _≤_, _<_}
 use native.Mathlib.Nat.{add-zero, zero-add, zero-mul, suc-mul, mul-le-mul-right, not-suc-le-zero, le-of-suc-le-suc}
 use native.Mathlib.Numerals.{add-one}
 use native.Mathlib.Omega.{arith}
-use lib.Dec.{eqb}
-use borrow.Author.Tests.{eqb-true, eqb-false, eq-eqb, ne-eqb}
-use lib.ListN.{length, getD, set, drop, replicate, length-append, length-drop, length-set, replicate-append-replicate, List·getD-append}
-use lib.Seq.{ext-getD, getD-append-add, getD-append-seam, getD-set-same, getD-set-other}
+use lib.Dec.{eqb, ltb}
+use borrow.Author.Tests.{eqb-true, eqb-false, eq-eqb, ltb-true, ltb-false}
+use lib.ListN.{length, getD, set, take, drop, take-append-drop, replicate, length-append, length-drop, length-set, replicate-append-replicate, List·getD-append}
+use lib.Seq.{ext-getD, length-take-le, getD-take, getD-append-add, getD-append-seam, getD-set-same, getD-set-other}
 use Rattle.model.specs.Words.{count, row, table, over}
-use Rattle.laws.specs.Tests.{by-cases, below-suc}
+use Rattle.laws.specs.Tests.{by-cases, below-suc, and-yes}
 
 -- ---- row
 pub row-length : {A : Type 0} (f : ℕ → A) (n : ℕ) → length (row f n) ≡ n
@@ -81,6 +83,73 @@ table-at f n (suc m) i d x h l =
     List·getD-append (table f n m) (row (f m) n) x (i * n + d) r ∙ table-at f n m i d x k l)
     (λ (e : i ≡ m).
     rw (e, ← (table-length f n m)) (getD-append-add (table f n m) (row (f m) n) d x ∙ row-at (f m) n d x l))
+
+pub table-same : (f g : ℕ → ℕ → ℕ) (n m : ℕ) → ((i d : ℕ) → i < m → d < n → f i d ≡ g i d) → table f n m ≡ table g n m
+unfolding table
+table-same f g n zero h = refl
+table-same f g n (suc m) h =
+    rw (table-same f g n m (λ i d hi hd. h i d (omega arith) hd), row-same (f m) (g m) n (λ d hd. h m d (omega arith) hd))
+
+-- two entries of a table that stand at one place are one entry
+pub two-places : (n i j p q : ℕ) → p < n → q < n → i * n + p ≡ j * n + q → (i ≡ j) × (p ≡ q)
+two-places n i j p q hp hq e =
+    by-cases (ltb i j)
+    (λ (y : ltb i j ≡ true). absurd (omega (arith, table-room i j n (ltb-true i j y))))
+    (λ (z : ltb i j ≡ false).
+    by-cases (ltb j i)
+    (λ (y : ltb j i ≡ true). absurd (omega (arith, table-room j i n (ltb-true j i y))))
+    (λ (w : ltb j i ≡ false).
+    let same : i ≡ j = omega (arith, ltb-false i j z, ltb-false j i w) in
+    (same, let e′ : j * n + p ≡ j * n + q = rw same at e in omega arith)))
+
+-- a number below m x n as a place of a table
+pub place-of : (n m x : ℕ) → x < m * n → (i : ℕ) × (d : ℕ) × (i < m) × (d < n) × (x ≡ i * n + d)
+place-of n zero x h = absurd (not-suc-le-zero (rw (zero-mul n) at h))
+place-of n (suc m) x h =
+    by-cases (ltb x (m * n))
+    (λ (y : ltb x (m * n) ≡ true).
+    let r = place-of n m x (ltb-true x (m * n) y) in
+    (r .0, r .1, omega (arith, r .2), r .3, r .4))
+    (λ (z : ltb x (m * n) ≡ false).
+    let h′ : x < m * n + n = rw (suc-mul m n) at h in
+    (m, x - m * n, omega arith, omega (arith, ltb-false x (m * n) z), omega (arith, ltb-false x (m * n) z)))
+
+-- two lists that are as long as a table and have its entries
+table-is : (f : ℕ → ℕ → ℕ) (n m : ℕ) (l : List ℕ) → length l ≡ m * n → ((i d : ℕ) → i < m → d < n → getD l (i * n + d) 0 ≡ f i d) → l ≡ table f n m
+table-is f n m l size h =
+    ext-getD 0 l (table f n m) (size ∙ sym (table-length f n m))
+    (λ x hx.
+    let r = place-of n m x (rw size at hx) in
+    rw (r .4) (h (r .0) (r .1) (r .2) (r .3) ∙ sym (table-at f n m (r .0) (r .1) 0 (r .2) (r .3))))
+
+-- a store into a table: the function is changed at one place
+pub table-set : (f : ℕ → ℕ → ℕ) (n m i d v : ℕ) → i < m → d < n → set (table f n m) (i * n + d) v ≡ table (λ j e. cond (eqb i j && eqb d e) v (f j e)) n m
+table-set f n m i d v hi hd =
+    let g : ℕ → ℕ → ℕ = λ j e. cond (eqb i j && eqb d e) v (f j e) in
+    let inside : i * n + d < length (table f n m) = omega (arith, table-length f n m, table-room i m n hi) in
+    table-is g n m (set (table f n m) (i * n + d) v)
+    (length-set (table f n m) (i * n + d) v ∙ table-length f n m)
+    (λ j e hj he.
+    by-cases (eqb i j && eqb d e)
+    (λ (y : (eqb i j && eqb d e) ≡ true).
+    let p = and-yes (eqb i j) (eqb d e) y in
+    rw (y, ← (eqb-true i j (p .0)), ← (eqb-true d e (p .1))) (getD-set-same (table f n m) (i * n + d) v 0 inside))
+    (λ (z : (eqb i j && eqb d e) ≡ false).
+    let apart : j * n + e ≢ i * n + d =
+    λ same. let r = two-places n j i e d he hd same in
+    true≢false (sym (rw (eq-eqb i j (sym (r .0)), eq-eqb d e (sym (r .1)))) ∙ z) in
+    rw z (getD-set-other (table f n m) (i * n + d) (j * n + e) v 0 apart ∙ table-at f n m j e 0 hj he)))
+
+-- any slice that is long enough is a table of its own entries, written over itself
+pub table-of : (n m : ℕ) (l : List ℕ) → m * n ≤ length l → l ≡ over (table (λ i d. getD l (i * n + d) 0) n m) l
+unfolding over
+table-of n m l h =
+    let f : ℕ → ℕ → ℕ = λ i d. getD l (i * n + d) 0 in
+    let front : take (m * n) l ≡ table f n m =
+    table-is f n m (take (m * n) l) (length-take-le (m * n) l h)
+    (λ i d hi hd. getD-take (m * n) l (i * n + d) 0 (omega (arith, table-room i m n hi))) in
+    sym (take-append-drop (m * n) l) ∙ ap (λ (a : List ℕ). a ++ drop (m * n) l) front
+    ∙ ap (λ (c : ℕ). table f n m ++ drop c l) (sym (table-length f n m))
 
 -- ---- count
 pub count-append : {A : Type 0} (t : A → Bool) (l k : List A) → count t (l ++ k) ≡ count t l + count t k

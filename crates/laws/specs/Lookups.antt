@@ -57,11 +57,11 @@ randoms-times s d i (suc b) j q =
     rw (times-append, randoms-times s d i b j q)
     (by-cases (eqb j b)
     (λ (y : eqb j b ≡ true).
-      let e : j ≡ b = eqb-true j b y in
-      rw (e, lt-ltb b (suc b) (omega arith), le-ltb b b (omega arith)) (in-last b))
+    let e : j ≡ b = eqb-true j b y in
+    rw (e, lt-ltb b (suc b) (omega arith), le-ltb b b (omega arith)) (in-last b))
     (λ (z : eqb j b ≡ false).
-      let apart : j ≡ b → ⊥ = eqb-false j b z in
-      rw (ltb-suc-other j b apart, out-of-last b (λ (e : b ≡ j). apart (sym e))) (omega arith)))
+    let apart : j ≡ b → ⊥ = eqb-false j b z in
+    rw (ltb-suc-other j b apart, out-of-last b (λ (e : b ≡ j). apart (sym e))) (omega arith)))
   where
     in-last : (b : ℕ) → 0 + times (cond (eqb b i) [] (access random b (place s b d) ∷ [])) b q ≡ once (not (eqb b i) && eqb (place s b d) q)
     in-last b =
@@ -81,11 +81,11 @@ lookup-times s v k i p j q hi hp hj =
     rw (times-cons k i p (randoms s (item s i p) i (s .m)) j q, randoms-times s (item s i p) i (s .m) j q, lt-ltb j (s .m) hj)
     (by-cases (eqb i j)
     (λ (y : eqb i j ≡ true).
-      let e : i ≡ j = eqb-true i j y in
-      rw (← e, eq-eqb i i refl, v .place-of-item i p hi hp) (omega arith))
+    let e : i ≡ j = eqb-true i j y in
+    rw (← e, eq-eqb i i refl, v .place-of-item i p hi hp) (omega arith))
     (λ (z : eqb i j ≡ false).
-      let apart : i ≡ j → ⊥ = eqb-false i j z in
-      rw (z, ne-eqb j i (λ (e : j ≡ i). apart (sym e))) (omega arith)))
+    let apart : i ≡ j → ⊥ = eqb-false i j z in
+    rw (z, ne-eqb j i (λ (e : j ≡ i). apart (sym e))) (omega arith)))
 
 -- ---- how many accesses of each kind
 made-none : (k : Kind) → made k [] ≡ 0
@@ -104,14 +104,14 @@ randoms-made s d i (suc b) =
     rw (made-append random (randoms s d i b) (cond (eqb b i) [] (access random b (place s b d) ∷ [])))
     (by-cases (eqb b i)
     (λ (y : eqb b i ≡ true).
-      let e : b ≡ i = eqb-true b i y in
-      let before : made random (randoms s d i b) + once (ltb i b) ≡ b = randoms-made s d i b in
-      let before′ : made random (randoms s d i b) + 0 ≡ b = rw (le-ltb i b (omega arith)) at before in
-      rw (y, made-none random, lt-ltb i (suc b) (omega arith)) (omega arith))
+    let e : b ≡ i = eqb-true b i y in
+    let before : made random (randoms s d i b) + once (ltb i b) ≡ b = randoms-made s d i b in
+    let before′ : made random (randoms s d i b) + 0 ≡ b = rw (le-ltb i b (omega arith)) at before in
+    rw (y, made-none random, lt-ltb i (suc b) (omega arith)) (omega arith))
     (λ (z : eqb b i ≡ false).
-      let apart : b ≡ i → ⊥ = eqb-false b i z in
-      rw (z, made-one random random b (place s b d), ltb-suc-other i b (λ (e : i ≡ b). apart (sym e)))
-      (omega (arith, randoms-made s d i b))))
+    let apart : b ≡ i → ⊥ = eqb-false b i z in
+    rw (z, made-one random random b (place s b d), ltb-suc-other i b (λ (e : i ≡ b). apart (sym e)))
+    (omega (arith, randoms-made s d i b))))
 
 -- no other kind is among them
 randoms-other : (s : Poses) (k : Kind) (d i b : ℕ) → sameKind random k ≡ false → made k (randoms s d i b) ≡ 0

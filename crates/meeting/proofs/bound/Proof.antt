@@ -35,10 +35,10 @@ join-most rule (suc i) a b =
     by-cases (eqb rule 0)
     (λ (y : eqb rule 0 ≡ true). rw y (omega arith))
     (λ (z : eqb rule 0 ≡ false).
-      rw z
-      (by-cases (eqb rule 1)
-      (λ (y : eqb rule 1 ≡ true). rw y (omega arith))
-      (λ (w : eqb rule 1 ≡ false). rw w (omega arith))))
+    rw z
+    (by-cases (eqb rule 1)
+    (λ (y : eqb rule 1 ≡ true). rw y (omega arith))
+    (λ (w : eqb rule 1 ≡ false). rw w (omega arith))))
 
 -- a local score is at most 65,535, and its product at most 65,535,000
 read-most : (n d depth i : ℕ) (high : Bool) (scores work : List ℕ) → ((j : ℕ) → getD scores j 0 ≤ 65535) → readAt n scores work d depth (unread high n scores depth) i ≤ 65535
@@ -68,7 +68,7 @@ product-most c =
     let at-loop = c .before .before in
     let small = at-start .pre .1 in
     let read : c .local-score .result ≤ 65535 =
-      rw (c .local-score .ensures) (read-most (at-start .args .n) (at-start .args .d) (at-start .args .depth) (at-loop .loop .i) (at-start .args .high) (at-start .args .scores .now) (at-start .args .work .now) (small .scores-small)) in
+    rw (c .local-score .ensures) (read-most (at-start .args .n) (at-start .args .d) (at-start .args .depth) (at-loop .loop .i) (at-start .args .high) (at-start .args .scores .now) (at-start .args .work .now) (small .scores-small)) in
     mul-le-mul read (small .weights-small (at-loop .loop .i))
 
 mul-w : tie.Need-mul-w Inv-loop μ-loop
@@ -104,10 +104,11 @@ loop-again c =
     let read = c .before in
     let at-loop = c .before .before .before in
     let joins = c .join .ensures in
-    let most = join-most (c .before .before .before .before .before .before .args .rule) (at-loop .loop .i) (at-loop .loop .acc) (read .local-score .result * getD (c .before .before .before .before .before .before .args .t7) (at-loop .loop .i) 0) in
-    (omega (arith, c .before .before .loop-test .taken),
-    omega (arith, product-most read, joins, most, at-loop .loop .inv .1),
-    rw (add-one (at-loop .loop .i), ← (at-loop .loop .inv .2), ← (read .local-score .ensures)) joins)
+    let most = join-most (c .before .before .before .before .before .before .args .rule) (at-loop .loop .i) (at-loop .loop .acc) (read .local-score .result * getD (c .before .before .before .before .before .before .args .t7) (at-loop .loop .i) 0) in (
+      omega (arith, c .before .before .loop-test .taken),
+      omega (arith, product-most read, joins, most, at-loop .loop .inv .1),
+      rw (add-one (at-loop .loop .i), ← (at-loop .loop .inv .2), ← (read .local-score .ensures)) joins,
+    )
 
 returns : tie.Need-returns Inv-loop μ-loop
 returns c =

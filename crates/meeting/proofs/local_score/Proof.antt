@@ -31,7 +31,8 @@ here c =
       depth-least = at .depth-least;
       depth-most = at .depth-most;
       place-least = at .place-least (c .args .i) (c .pre .1);
-      place-most = at .place-most (c .args .i) (c .pre .1) }
+      place-most = at .place-most (c .args .i) (c .pre .1);
+    }
 
 mul-base : tie.Need-mul-base
 mul-base c =

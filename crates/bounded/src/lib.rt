@@ -1,0 +1,1 @@
+// NRA: the search by bounds, with sorted accesses alone.
