@@ -1,1 +1,2 @@
 // NRA: the search by bounds, with sorted accesses alone.
+mod shortlist;

@@ -7,12 +7,13 @@
 --     two-places                         two entries of a table at one place are one entry
 --     count-append, count-set            a count over two lists; after a store that makes one more pass
 --     count-full                         where a count is the whole length, each entry passes
+--     map-at, map-take, map-drop, map-join       an entry of a mapped list; a part of one; of two joined
 --     over-length, over-at               a slice written over keeps its length; what stands in its first part
 -- Assumes nothing.
 use mathlib.Core.Path.{_≡_, refl, sym, ap, _∙_}
 use mathlib.Core.Bool.{Bool, true, false, cond, _&&_, true≢false}
 use mathlib.Core.Logic.{_≢_}
-use mathlib.Core.List.{List, [], _∷_, _++_, append-nil}
+use mathlib.Core.List.{List, [], _∷_, _++_, map}
 use Prim.Native.Nat.{ℕ, zero, suc, _+_, _-_, _*_, _≤_, _<_}
 use native.Mathlib.Nat.{add-zero, zero-add, zero-mul, suc-mul, mul-le-mul-right, not-suc-le-zero, le-of-suc-le-suc}
 use native.Mathlib.Numerals.{add-one}
@@ -184,6 +185,26 @@ pub count-full : {A : Type 0} (t : A → Bool) (l : List A) (d : ℕ) (x : A) �
 count-full t [] d x e h = absurd (not-suc-le-zero h)
 count-full t (a ∷ l) zero x e h = count-full-cons t a l e .0
 count-full t (a ∷ l) (suc d) x e h = count-full t l d x (count-full-cons t a l e .1) (le-of-suc-le-suc h)
+
+-- ---- map
+pub map-at : (f : ℕ → ℕ) (l : List ℕ) (j : ℕ) → j < length l → getD (map f l) j 0 ≡ f (getD l j 0)
+map-at f [] j h = absurd (not-suc-le-zero h)
+map-at f (x ∷ l) zero h = refl
+map-at f (x ∷ l) (suc j) h = map-at f l j (le-of-suc-le-suc h)
+
+pub map-take : (f : ℕ → ℕ) (k : ℕ) (l : List ℕ) → map f (take k l) ≡ take k (map f l)
+map-take f zero l = refl
+map-take f (suc k) [] = refl
+map-take f (suc k) (x ∷ l) = ap (λ (t : List ℕ). f x ∷ t) (map-take f k l)
+
+pub map-drop : (f : ℕ → ℕ) (k : ℕ) (l : List ℕ) → map f (drop k l) ≡ drop k (map f l)
+map-drop f zero l = refl
+map-drop f (suc k) [] = refl
+map-drop f (suc k) (x ∷ l) = map-drop f k l
+
+pub map-join : (f : ℕ → ℕ) (l k : List ℕ) → map f (l ++ k) ≡ map f l ++ map f k
+map-join f [] k = refl
+map-join f (x ∷ l) k = ap (λ (t : List ℕ). f x ∷ t) (map-join f l k)
 
 -- ---- over
 pub over-length : (l s : List ℕ) → length l ≤ length s → length (over l s) ≡ length s
