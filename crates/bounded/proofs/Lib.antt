@@ -1,5 +1,11 @@
 -- Laws that the proofs of this crate cite.
 --     Sliding    entries moved one place on, and a value put in
 --     Keeping    one item into the shortlist
+--     Filling    slices written from the front
+--     Items      the items one after the other
+--     Testing    the test after p rows, told by the shortlist that was made
 mod Sliding
+mod Testing
+mod Items
+mod Filling
 mod Keeping

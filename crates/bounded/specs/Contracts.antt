@@ -113,7 +113,6 @@ pub record Listed (v : View) (k p c : ℕ) (picks₀ lows₀ highs₀ : List ℕ
 pub record Considered (v : View) (k p d filled : ℕ) (picks lows highs : List ℕ) (r : ℕ) (picks′ lows′ highs′ : List ℕ) : Type 0 where
   pub considers : (picks₀ lows₀ highs₀ : List ℕ) → Listed v k p d picks₀ lows₀ highs₀ filled picks lows highs
       → Listed v k p (d + 1) picks₀ lows₀ highs₀ r picks′ lows′ highs′
-  pub filled-most : r ≤ k
 
 -- Whatever the slices hold, what lies past the first k places stays
 pub record Tried (v : View) (k p : ℕ) (picks lows highs : List ℕ) (r : Bool) (picks′ lows′ highs′ : List ℕ) : Type 0 where

@@ -1,2 +1,285 @@
-// NRA: the search by bounds, with sorted accesses alone.
+// NRA: the search by bounds. Once its test holds after a row it holds after every later row, so the row
+// after which it stops is found by trying few rows: 1, 3, 7, .. and then between the last two.
 mod shortlist;
+mod tally;
+
+use meeting::bound;
+use shortlist::ahead;
+use shortlist::keep;
+use tally::fill_tally;
+ghost use mathlib.Core.Path.{_≡_};
+ghost use Prim.Native.Nat.{_+_, _*_, _≤_, _<_};
+ghost use lib.Dec.{leb};
+ghost use lib.ListN.{length, getD};
+ghost use Rattle.model.specs.Words.{someBelow, everyBelow};
+ghost use Rattle.lists.specs.Contracts.{poses};
+ghost use Rattle.meeting.specs.Contracts.{queryWith, Readable, Room};
+ghost use Rattle.bounded.specs.Contracts.{view, passesBy, Legible, Spaced, Keeps, Listed, Considered, Tried, Halted, Finished};
+
+fn wide(x: u16) -> usize
+    ensures { λ r. ⌜ r ≡ x ⌝ }
+{
+    x as usize
+}
+
+fn narrow(x: usize) -> u16
+    requires { ⌜ x < 65536 ⌝ }
+    ensures { λ r. ⌜ r ≡ x ⌝ }
+{
+    x as u16
+}
+
+// Item d is met after p rows: in one list its position is at most p.
+fn seen(d: usize, p: usize, m: usize, n: usize, work: &[u16]) -> bool
+    requires { ⌜ (m ≤ 8) × (n ≤ 1024) × (d < n) × (m * n ≤ length (now work)) ⌝ }
+    ensures { λ r. ⌜ r ≡ someBelow (λ i. leb (getD (now (work .entry)) (i * n + d) 0) p) m ⌝ }
+{
+    let mut i = 0;
+    while i < m {
+        let base = i * n;
+        let at = base + d;
+        if wide(work[at]) <= p {
+            return true;
+        }
+        i += 1;
+    }
+    false
+}
+
+// Item d, where it is met, into the first k after p rows, and how many there are then.
+fn consider(
+    d: usize,
+    p: usize,
+    k: usize,
+    filled: usize,
+    m: usize,
+    n: usize,
+    rule: u8,
+    weights: [u32; 8],
+    scores: &[u16],
+    work: &[u16],
+    picks: &mut [u16],
+    lows: &mut [u32],
+    highs: &mut [u32],
+) -> usize
+    requires { ⌜ Legible (view m n rule weights (now scores) (now work)) p × (d < n) × Keeps k filled (now picks) (now lows) (now highs) ⌝ }
+    ensures { λ r. ⌜ Considered (view m n rule weights (now (scores .entry)) (now (work .entry))) k p d filled (now (picks .entry)) (now (lows .entry)) (now (highs .entry)) r (now (picks .exit)) (now (lows .exit)) (now (highs .exit)) ⌝ }
+{
+    if seen(d, p, m, n, work) {
+        let low = bound(false, d, p, m, n, rule, weights, scores, work);
+        let high = bound(true, d, p, m, n, rule, weights, scores, work);
+        return keep(narrow(d), low, high, k, filled, picks, lows, highs);
+    }
+    filled
+}
+
+// The first k of all items met after p rows, and how many there are.
+fn rank(
+    p: usize,
+    k: usize,
+    m: usize,
+    n: usize,
+    rule: u8,
+    weights: [u32; 8],
+    scores: &[u16],
+    work: &[u16],
+    picks: &mut [u16],
+    lows: &mut [u32],
+    highs: &mut [u32],
+) -> usize
+    requires { ⌜ Legible (view m n rule weights (now scores) (now work)) p × Spaced k (now picks) (now lows) (now highs) ⌝ }
+    ensures { λ r. ⌜ Listed (view m n rule weights (now (scores .entry)) (now (work .entry))) k p n (now (picks .entry)) (now (lows .entry)) (now (highs .entry)) r (now (picks .exit)) (now (lows .exit)) (now (highs .exit)) ⌝ }
+{
+    let mut filled = 0;
+    let mut d = 0;
+    while d < n {
+        filled = consider(
+            d,
+            p,
+            k,
+            filled,
+            m,
+            n,
+            rule,
+            weights,
+            scores,
+            work,
+            picks,
+            lows,
+            highs,
+        );
+        d += 1;
+    }
+    filled
+}
+
+// Item d lets the search stop after p rows, where `last` with its low and high is the last item kept: its
+// own high is no more than that low, or it is one of those kept.
+fn passes(
+    d: usize,
+    p: usize,
+    last: u16,
+    low: u32,
+    high: u32,
+    m: usize,
+    n: usize,
+    rule: u8,
+    weights: [u32; 8],
+    scores: &[u16],
+    work: &[u16],
+) -> bool
+    requires { ⌜ Legible (view m n rule weights (now scores) (now work)) p × (d < n) ⌝ }
+    ensures { λ r. ⌜ r ≡ passesBy (view m n rule weights (now (scores .entry)) (now (work .entry))) p last low high d ⌝ }
+{
+    let own = bound(true, d, p, m, n, rule, weights, scores, work);
+    if own <= low {
+        return true;
+    }
+    if seen(d, p, m, n, work) {
+        let least = bound(false, d, p, m, n, rule, weights, scores, work);
+        return !ahead(last, low, high, narrow(d), least, own);
+    }
+    false
+}
+
+// Every item lets the search stop. Most often the first that does not is met early.
+fn settled(
+    p: usize,
+    last: u16,
+    low: u32,
+    high: u32,
+    m: usize,
+    n: usize,
+    rule: u8,
+    weights: [u32; 8],
+    scores: &[u16],
+    work: &[u16],
+) -> bool
+    requires { ⌜ Legible (view m n rule weights (now scores) (now work)) p ⌝ }
+    ensures { λ r. ⌜ r ≡ everyBelow (passesBy (view m n rule weights (now (scores .entry)) (now (work .entry))) p last low high) n ⌝ }
+{
+    let mut d = 0;
+    while d < n {
+        if passes(d, p, last, low, high, m, n, rule, weights, scores, work) {
+            d += 1;
+        } else {
+            return false;
+        }
+    }
+    true
+}
+
+// NRA's test after p rows. The first k places of the shortlist are used for it.
+fn halts(
+    p: usize,
+    k: usize,
+    m: usize,
+    n: usize,
+    rule: u8,
+    weights: [u32; 8],
+    scores: &[u16],
+    work: &[u16],
+    picks: &mut [u16],
+    lows: &mut [u32],
+    highs: &mut [u32],
+) -> bool
+    requires { ⌜ Legible (view m n rule weights (now scores) (now work)) p × Spaced k (now picks) (now lows) (now highs) ⌝ }
+    ensures { λ r. ⌜ Tried (view m n rule weights (now (scores .entry)) (now (work .entry))) k p (now (picks .entry)) (now (lows .entry)) (now (highs .entry)) r (now (picks .exit)) (now (lows .exit)) (now (highs .exit)) ⌝ }
+{
+    let filled = rank(p, k, m, n, rule, weights, scores, work, picks, lows, highs);
+    if filled < k {
+        return false;
+    }
+    let end = k - 1;
+    settled(
+        p,
+        picks[end],
+        lows[end],
+        highs[end],
+        m,
+        n,
+        rule,
+        weights,
+        scores,
+        work,
+    )
+}
+
+// The row to try next, where it is one of `from` to `to`: twice as deep as before, or half way.
+fn probe(from: usize, to: usize) -> usize
+    requires { ⌜ (1 ≤ from) × (from < to) × (to ≤ 1024) ⌝ }
+    ensures { λ r. ⌜ (from ≤ r) × (r < to) ⌝ }
+{
+    let middle = (from + to) / 2;
+    let deeper = from + from - 1;
+    if deeper < middle {
+        return deeper;
+    }
+    middle
+}
+
+// The row after which NRA stops: the first of 1 to n - 1 whose test holds, else n.
+fn stopping_row(
+    k: usize,
+    m: usize,
+    n: usize,
+    rule: u8,
+    weights: [u32; 8],
+    scores: &[u16],
+    work: &[u16],
+    picks: &mut [u16],
+    lows: &mut [u32],
+    highs: &mut [u32],
+) -> usize
+    requires { ⌜ Legible (view m n rule weights (now scores) (now work)) n × Spaced k (now picks) (now lows) (now highs) ⌝ }
+    ensures { λ r. ⌜ Halted (view m n rule weights (now (scores .entry)) (now (work .entry))) k r (now (picks .entry)) (now (lows .entry)) (now (highs .entry)) (now (picks .exit)) (now (lows .exit)) (now (highs .exit)) ⌝ }
+{
+    let mut from = 1;
+    let mut to = n;
+    while from < to {
+        let p = probe(from, to);
+        if halts(p, k, m, n, rule, weights, scores, work, picks, lows, highs) {
+            to = p;
+        } else {
+            from = p + 1;
+        }
+    }
+    to
+}
+
+// The run of NRA over accepted lists, whose positions the work slice holds: the shortlist and the tally
+// are written, and the answer is the row after which it stops.
+pub fn run_nra(
+    m: usize,
+    n: usize,
+    items: &[u16],
+    scores: &[u16],
+    rule: u8,
+    weights: [u32; 8],
+    k: usize,
+    picks: &mut [u16],
+    lows: &mut [u32],
+    highs: &mut [u32],
+    tally: &mut [u8],
+    work: &[u16],
+) -> u32
+    requires { ⌜ Readable (poses m n (now items) (now scores)) (queryWith rule weights) (now work) × Room (poses m n (now items) (now scores)) k (now picks) (now lows) (now highs) (now tally) ⌝ }
+    ensures { λ r. ⌜ Finished (poses m n (now (items .entry)) (now (scores .entry))) (queryWith rule weights) k r (now (picks .entry)) (now (lows .entry)) (now (highs .entry)) (now (tally .entry)) (now (picks .exit)) (now (lows .exit)) (now (highs .exit)) (now (tally .exit)) ⌝ }
+{
+    let row = stopping_row(k, m, n, rule, weights, scores, work, picks, lows, highs);
+    rank(
+        row,
+        k,
+        m,
+        n,
+        rule,
+        weights,
+        scores,
+        work,
+        picks,
+        lows,
+        highs,
+    );
+    fill_tally(row, m, n, tally);
+    row as u32
+}
