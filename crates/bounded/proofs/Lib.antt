@@ -4,7 +4,9 @@
 --     Filling    slices written from the front
 --     Items      the items one after the other
 --     Testing    the test after p rows, told by the shortlist that was made
+--     Narrowing  the search for the row after which NRA stops
 mod Sliding
+mod Narrowing
 mod Testing
 mod Items
 mod Filling
