@@ -26,7 +26,7 @@ use Rattle.bounded.proofs.Sliding.{over-beyond}
 use Rattle.bounded.proofs.Keeping.{ahead-bounds}
 use Rattle.bounded.proofs.Items.{listed-most}
 
-every-same : (t u : ℕ → Bool) (n : ℕ) → ((i : ℕ) → i < n → t i ≡ u i) → everyBelow t n ≡ everyBelow u n
+pub every-same : (t u : ℕ → Bool) (n : ℕ) → ((i : ℕ) → i < n → t i ≡ u i) → everyBelow t n ≡ everyBelow u n
 unfolding everyBelow
 every-same t u zero h = refl
 every-same t u (suc n) h = rw (every-same t u n (λ i l. h i (omega arith)), h n (omega arith))

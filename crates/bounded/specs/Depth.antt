@@ -25,7 +25,7 @@ use Rattle.laws.specs.Overall.{overall-rises}
 use Rattle.laws.specs.Accepted.{Valid}
 
 -- equal tests pass alike
-some-same : (t u : ℕ → Bool) (n : ℕ) → ((i : ℕ) → i < n → t i ≡ u i) → someBelow t n ≡ someBelow u n
+pub some-same : (t u : ℕ → Bool) (n : ℕ) → ((i : ℕ) → i < n → t i ≡ u i) → someBelow t n ≡ someBelow u n
 unfolding someBelow
 some-same t u zero h = refl
 some-same t u (suc n) h = rw (some-same t u n (λ i l. h i (omega arith)), h n (omega arith))
