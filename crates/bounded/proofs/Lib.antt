@@ -3,13 +3,9 @@
 --     Keeping    one item into the shortlist
 --     Filling    slices written from the front
 --     Items      the items one after the other
---     Testing    the test after p rows, told by the shortlist that was made
---     Narrowing  the search for the row after which NRA stops
---     Reading    what the code reads is what the definitions say; the run as a whole
+--     Marks      items' marks, the k-th low, and the test by it
 mod Sliding
-mod Reading
-mod Narrowing
-mod Testing
+mod Marks
 mod Items
 mod Filling
 mod Keeping

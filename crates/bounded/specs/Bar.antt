@@ -1,7 +1,8 @@
 -- NRA's test by a bar, and that a search which may stop after a row may stop after every later one.
---     halts                      NRA's test of given lows, highs and met items; `halts-same` of equal ones
+--     held, halts                the first k met items, by given lows and highs; NRA's test of them
 --     Parted                     a bar: k lows reach it, at most k highs are above it, and those items' lows reach it
 --     halts-parted, parted-halts     the test holds exactly where there is such a bar
+--     parts, parts-halts         the test by the k-th low alone, with no order made
 --     halts-stay                 it still holds once lows have risen, highs have fallen and more items are met
 -- Assumes nothing.
 use mathlib.Core.Path.{_≡_, refl, sym, ap, _∙_}
@@ -101,15 +102,14 @@ module _ (n k : ℕ) (low high : ℕ → ℕ) (met : ℕ → Bool) (some : 1 ≤
         above-reach = λ d hd above. (held-met d (kept-above d hd above), held-low full d (kept-above d hd above));
       }
 
-  module _ (low-most : (d : ℕ) → d < n → low d ≤ high d) (bar : ℕ) (b : Parted n k low high met bar) where
-    -- k items are met
+  -- k lows reach a bar: k items are kept, and the last low of them reaches it
+  module _ (bar : ℕ) (reached : k ≤ passing (λ d. met d && leb bar (low d)) n) where
     bar-full : length (held n k low high met) ≡ k
     unfolding held
     bar-full =
         let met-many = passing-wider (λ d. met d && leb bar (low d)) met n (λ d _ y. and-yes (met d) (leb bar (low d)) y .0) in
-        omega (arith, b .reached, ranked-length (ahead low high) met n, length-take k (ranked (ahead low high) met n))
+        omega (arith, ranked-length (ahead low high) met n, length-take k (ranked (ahead low high) met n))
 
-    -- the last low kept reaches the bar
     bar-last : bar ≤ low (lastOf 0 (held n k low high met))
     unfolding held
     bar-last =
@@ -120,10 +120,14 @@ module _ (n k : ℕ) (low high : ℕ → ℕ) (met : ℕ → Bool) (some : 1 ≤
         kth-passes (ahead low high) t
         (λ d e a y. le-leb bar (low d) (omega (arith, ahead-low low high d e a, leb-true bar (low e) y)))
         l (k - 1) (ranked-sorted (ahead low high) (ahead-ordering low high) met n)
-        (omega (arith, b .reached, ranked-count (ahead low high) met t n)) in
+        (omega (arith, ranked-count (ahead low high) met t n)) in
         let size : suc (k - 1) ≡ k = omega arith in
         let last : lastOf 0 (take k l) ≡ getD l (k - 1) 0 = rw size at (last-at 0 l (k - 1) many) in
         rw last (leb-true bar (low (getD l (k - 1) 0)) passes)
+
+  module _ (low-most : (d : ℕ) → d < n → low d ≤ high d) (bar : ℕ) (b : Parted n k low high met bar) where
+    abbrev full : length (held n k low high met) ≡ k
+    full = bar-full bar (b .reached)
 
     -- a met item outside has all of the first k ahead of it
     outside-behind : (d e : ℕ) → d < n → met d ≡ true → among d (held n k low high met) ≡ false → among e (held n k low high met) ≡ true → ahead low high e d ≡ true
@@ -131,11 +135,11 @@ module _ (n k : ℕ) (low high : ℕ → ℕ) (met : ℕ → Bool) (some : 1 ≤
     outside-behind d e hd y out kept =
         let o = ahead-ordering low high in
         let last = lastOf 0 (held n k low high met) in
-        let behind : ahead low high last d ≡ true = kept-others (ahead low high) o met n k some bar-full d hd y out in
+        let behind : ahead low high last d ≡ true = kept-others (ahead low high) o met n k some full d hd y out in
         ⊎-elim
         (λ (same : e ≡ last). rw same behind)
         (λ a. o .through e last d a behind)
-        (kept-each (ahead low high) o met n k some bar-full e kept)
+        (kept-each (ahead low high) o met n k some full e kept)
 
     -- so their highs are above the bar too, if that item's is
     above-too : (d e : ℕ) → bar ≤ low d → bar < high d → e < n → Ahead low high e d → bar < high e
@@ -150,7 +154,7 @@ module _ (n k : ℕ) (low high : ℕ → ℕ) (met : ℕ → Bool) (some : 1 ≤
         (λ y. leb-true (high d) (low (lastOf 0 l)) y)
         (λ z.
         let over = leb-false (high d) (low (lastOf 0 l)) z in
-        let above : bar < high d = omega (arith, bar-last) in
+        let above : bar < high d = omega (arith, bar-last bar (b .reached)) in
         let inside = b .above-reach d hd above in
         let t : ℕ → Bool = λ x. among x l in
         let u : ℕ → Bool = λ x. among x l || eqb x d in
@@ -162,14 +166,14 @@ module _ (n k : ℕ) (low high : ℕ → ℕ) (met : ℕ → Bool) (some : 1 ≤
         (λ a. lt-ltb bar (high x)
         (above-too d x (inside .1) above hx (ahead-tells low high x d (outside-behind d x hd (inside .0) out a))))
         (λ e. let same : x ≡ d = eqb-true x d e in rw same (lt-ltb bar (high d) above))) in
-        absurd (omega (arith, held-size bar-full, b .few-above)))
+        absurd (omega (arith, held-size full, b .few-above)))
 
     pub parted-halts : halts n k low high met ≡ true
     unfolding halts
     parted-halts =
         let l = held n k low high met in
         let last = low (lastOf 0 l) in
-        rw (le-leb k (length l) (omega (arith, bar-full)))
+        rw (le-leb k (length l) (omega (arith, full)))
         (every-all (λ d. among d l || leb (high d) last) n
         (λ d hd.
         by-cases (among d l)
@@ -203,3 +207,65 @@ halts-stay n k low high low′ high′ met met′ some rise fall most stay y =
           let old = b .above-reach d hd (omega (arith, fall d hd)) in
           (stay d hd (old .0), omega (arith, rise d hd, old .1));
     })
+
+-- ---- the test by the k-th low alone
+-- each item whose high is above the bar is met and its low reaches the bar, and there are at most k of them
+unfoldable pub parts : ℕ → ℕ → (ℕ → ℕ) → (ℕ → ℕ) → (ℕ → Bool) → ℕ → Bool
+parts n k low high met bar =
+    everyBelow (λ d. leb (high d) bar || (met d && leb bar (low d))) n && leb (passing (λ d. ltb bar (high d)) n) k
+
+module _ (n k : ℕ) (low high : ℕ → ℕ) (met : ℕ → Bool) (some : 1 ≤ k) (bar : ℕ) (reached : k ≤ passing (λ d. met d && leb bar (low d)) n) where
+  parts-parted : parts n k low high met bar ≡ true → Parted n k low high met bar
+  unfolding parts
+  parts-parted y =
+      let t : ℕ → Bool = λ d. leb (high d) bar || (met d && leb bar (low d)) in
+      let both = and-yes (everyBelow t n) (leb (passing (λ d. ltb bar (high d)) n) k) y in
+      record {
+        reached = reached;
+        few-above = leb-true (passing (λ d. ltb bar (high d)) n) k (both .1);
+        above-reach = λ d hd above.
+            or-yes (leb (high d) bar) (met d && leb bar (low d)) (every-at t n d (both .0) hd)
+            (λ a. absurd (omega (arith, leb-true (high d) bar a)))
+            (λ a. let inside = and-yes (met d) (leb bar (low d)) a in (inside .0, leb-true bar (low d) (inside .1)));
+      }
+
+  parted-parts : Parted n k low high met bar → parts n k low high met bar ≡ true
+  unfolding parts
+  parted-parts b =
+      rw (every-all (λ d. leb (high d) bar || (met d && leb bar (low d))) n
+      (λ d hd.
+      by-cases (leb (high d) bar)
+      (λ (y : leb (high d) bar ≡ true). rw y)
+      (λ (z : leb (high d) bar ≡ false).
+      let inside = b .above-reach d hd (leb-false (high d) bar z) in
+      rw (z, inside .0, le-leb bar (low d) (inside .1)))))
+      (le-leb (passing (λ d. ltb bar (high d)) n) k (b .few-above))
+
+  -- the bar is the k-th low: no higher one is reached by k lows
+  pub parts-halts : ((d : ℕ) → d < n → low d ≤ high d) → passing (λ d. met d && leb (suc bar) (low d)) n < k → parts n k low high met bar ≡ halts n k low high met
+  parts-halts low-most not-next =
+      by-cases (parts n k low high met bar)
+      (λ (y : parts n k low high met bar ≡ true). y ∙ sym (parted-halts n k low high met some low-most bar (parts-parted y)))
+      (λ (z : parts n k low high met bar ≡ false).
+      z
+      ∙ sym
+      (never (halts n k low high met)
+      (λ y.
+      let last = low (lastOf 0 (held n k low high met)) in
+      let b = halts-parted n k low high met some y in
+      let least = bar-last n k low high met some bar reached in
+      let most : last ≤ bar =
+      by-cases (leb last bar)
+      (λ a. leb-true last bar a)
+      (λ a.
+      let above = leb-false last bar a in
+      absurd (omega (
+        arith,
+        b .reached,
+        passing-wider (λ d. met d && leb last (low d)) (λ d. met d && leb (suc bar) (low d)) n
+            (λ d _ e.
+            let both = and-yes (met d) (leb last (low d)) e in
+            rw (both .0, le-leb (suc bar) (low d) (omega (arith, leb-true last (low d) (both .1))))),
+      ))) in
+      let same : last ≡ bar = omega arith in
+      true≢false (sym (parted-parts (rw same at b)) ∙ z))))

@@ -1,5 +1,5 @@
 -- The records that the contracts of `bounded` cite.
---     View, view             what NRA's bounds are read from, as the code holds it: the list's sizes, the rule, weights, scores, positions
+--     View, view             what NRA's bounds are read from, as the code holds it
 --     boundOf, metOf         an item's low or high after p rows; whether it is met
 --     heldOf, haltsOf        the first k met items below c, in the order; NRA's test after p rows
 --     Legible                what reading after p rows asks
@@ -7,13 +7,14 @@
 --     slid                   a value put in at a seat, what stood from there on moved one place on
 --     Spaced, Keeps          k places are lent for the shortlist; the first `filled` of them hold items
 --     Listing, Inserted      items in the order in the three slices; what an insertion promises of any such items
---     Listed                 the first k items below c after p rows, in the three slices
---     Considered, Ranked, Tried      what becomes of the slices where one item is put in; where all are; where a row is tried
---     passesBy, Halted       item d lets the search stop, told by the last item kept; the row after which NRA stops
+--     Listed, Considered     the first k items below c after p rows, in the three slices; one item more
+--     markOf, Marked         an item's low as a number above 0 where it is met; each item's
+--     reachOf, Barred        how many marks are above a bar; the highest bar that k of them are above
+--     partsOf, Halted        NRA's test by that bar; the row after which NRA stops
 --     Finished               what the run of NRA promises
 -- Assumes nothing.
 use mathlib.Core.Path.{_≡_}
-use mathlib.Core.Bool.{Bool, true, false, not, _&&_, _||_}
+use mathlib.Core.Bool.{Bool, true, false, cond, _&&_, _||_}
 use mathlib.Core.List.{List, _∷_, _++_}
 use Prim.Native.Nat.{ℕ, suc, _+_, _-_, _*_, _≤_, _<_}
 use lib.Dec.{eqb, leb, ltb}
@@ -21,9 +22,10 @@ use lib.ListN.{length, getD, take, drop}
 use Rattle.model.specs.Words.{someBelow}
 use Rattle.model.specs.Given.{Poses, Query, joined}
 use Rattle.model.specs.Searches.{ahead, insert, among, rows, NRA}
+use Rattle.laws.specs.Passing.{passing}
 use Rattle.laws.specs.Ranking.{Sorted}
 use Rattle.meeting.specs.Contracts.{readAt, unread, Shown, Ran}
-use Rattle.bounded.specs.Bar.{held, halts}
+use Rattle.bounded.specs.Bar.{held, halts, parts}
 
 -- What the bounds are read from: m lists of n entries, the rule and the weights, the scores and the work slice's positions
 pub record View : Type 0 where
@@ -114,29 +116,35 @@ pub record Considered (v : View) (k p d filled : ℕ) (picks lows highs : List �
   pub considers : (picks₀ lows₀ highs₀ : List ℕ) → Listed v k p d picks₀ lows₀ highs₀ filled picks lows highs
       → Listed v k p (d + 1) picks₀ lows₀ highs₀ r picks′ lows′ highs′
 
--- Whatever the slices hold, what lies past the first k places stays
-pub record Tried (v : View) (k p : ℕ) (picks lows highs : List ℕ) (r : Bool) (picks′ lows′ highs′ : List ℕ) : Type 0 where
-  pub tells : r ≡ haltsOf v k p
-  pub picks-beyond : drop k picks′ ≡ drop k picks
-  pub lows-beyond : drop k lows′ ≡ drop k lows
-  pub highs-beyond : drop k highs′ ≡ drop k highs
-
 -- ---- the test
--- item d lets the search stop: its high is no more than the last low kept, or it is one of those kept, being met and not behind the last
-unfoldable pub passesBy : View → ℕ → ℕ → ℕ → ℕ → ℕ → Bool
-passesBy v p last low high d =
-    leb (boundOf v true p d) low
-    || (metOf v p d && not (aheadOf last low high d (boundOf v false p d) (boundOf v true p d)))
+-- item d's low after p rows and one more; 0 where it is not met
+unfoldable pub markOf : View → ℕ → ℕ → ℕ
+markOf v p d = cond (metOf v p d) (boundOf v false p d + 1) 0
 
--- The test holds after r rows, r less than n, and it does not hold after one row less
-pub record Halted (v : View) (k r : ℕ) (picks lows highs picks′ lows′ highs′ : List ℕ) : Type 0 where
+-- Each item's mark after p rows, none too large
+pub record Marked (v : View) (p : ℕ) (marks : List ℕ) : Type 0 where
+  pub marks-long : v .n ≤ length marks
+  pub marks-are : (d : ℕ) → d < v .n → getD marks d 0 ≡ markOf v p d
+
+-- how many of n marks are above a bar
+unfoldable pub reachOf : ℕ → List ℕ → ℕ → ℕ
+reachOf n marks bar = passing (λ d. ltb bar (getD marks d 0)) n
+
+-- The highest bar that k marks are above
+pub record Barred (n k : ℕ) (marks : List ℕ) (bar : ℕ) : Type 0 where
+  pub reached : k ≤ reachOf n marks bar
+  pub not-next : reachOf n marks (suc bar) < k
+
+-- NRA's test after p rows by the k-th low
+unfoldable pub partsOf : View → ℕ → ℕ → ℕ → Bool
+partsOf v k p bar = parts (v .n) k (boundOf v false p) (boundOf v true p) (metOf v p) bar
+
+-- The test holds after r rows, or r is n, and it does not hold after one row less
+pub record Halted (v : View) (k r : ℕ) : Type 0 where
   pub row-least : 1 ≤ r
   pub row-most : r ≤ v .n
   pub holds : r < v .n → haltsOf v k r ≡ true
   pub not-before : (q : ℕ) → suc q ≡ r → 1 ≤ q → haltsOf v k q ≡ false
-  pub picks-beyond : drop k picks′ ≡ drop k picks
-  pub lows-beyond : drop k lows′ ≡ drop k lows
-  pub highs-beyond : drop k highs′ ≡ drop k highs
 
 -- The run of NRA: the row after which it stops, and the four slices as they are then
 pub record Finished (s : Poses) (q : Query) (k r : ℕ) (picks₀ lows₀ highs₀ tally₀ picks lows highs tally : List ℕ) : Type 0 where

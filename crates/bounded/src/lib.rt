@@ -4,17 +4,18 @@ mod shortlist;
 mod tally;
 
 use meeting::bound;
-use shortlist::ahead;
 use shortlist::keep;
 use tally::fill_tally;
 ghost use mathlib.Core.Path.{_≡_};
+ghost use mathlib.Core.Bool.{_&&_};
 ghost use Prim.Native.Nat.{_+_, _*_, _≤_, _<_};
-ghost use lib.Dec.{leb};
+ghost use lib.Dec.{leb, ltb};
 ghost use lib.ListN.{length, getD};
-ghost use Rattle.model.specs.Words.{someBelow, everyBelow};
+ghost use Rattle.model.specs.Words.{someBelow};
+ghost use Rattle.laws.specs.Lookups.{once};
 ghost use Rattle.lists.specs.Contracts.{poses};
 ghost use Rattle.meeting.specs.Contracts.{queryWith, Readable, Room};
-ghost use Rattle.bounded.specs.Contracts.{view, passesBy, Legible, Spaced, Keeps, Listed, Considered, Tried, Halted, Finished};
+ghost use Rattle.bounded.specs.Contracts.{view, markOf, reachOf, partsOf, haltsOf, Legible, Spaced, Keeps, Listed, Considered, Marked, Barred, Halted, Finished};
 
 fn wide(x: u16) -> usize
     ensures { λ r. ⌜ r ≡ x ⌝ }
@@ -113,63 +114,132 @@ fn rank(
     filled
 }
 
-// Item d lets the search stop after p rows, where `last` with its low and high is the last item kept: its
-// own high is no more than that low, or it is one of those kept.
-fn passes(
+// Item d's low after p rows and one more, or 0 where it is not met.
+fn mark(
     d: usize,
     p: usize,
-    last: u16,
-    low: u32,
-    high: u32,
     m: usize,
     n: usize,
     rule: u8,
     weights: [u32; 8],
     scores: &[u16],
     work: &[u16],
-) -> bool
+) -> u32
     requires { ⌜ Legible (view m n rule weights (now scores) (now work)) p × (d < n) ⌝ }
-    ensures { λ r. ⌜ r ≡ passesBy (view m n rule weights (now (scores .entry)) (now (work .entry))) p last low high d ⌝ }
+    ensures { λ r. ⌜ r ≡ markOf (view m n rule weights (now (scores .entry)) (now (work .entry))) p d ⌝ }
 {
-    let own = bound(true, d, p, m, n, rule, weights, scores, work);
-    if own <= low {
-        return true;
-    }
     if seen(d, p, m, n, work) {
-        let least = bound(false, d, p, m, n, rule, weights, scores, work);
-        return !ahead(last, low, high, narrow(d), least, own);
+        let low = bound(false, d, p, m, n, rule, weights, scores, work);
+        return low + 1;
+    }
+    0
+}
+
+// Every item's mark after p rows.
+fn note_marks(
+    p: usize,
+    m: usize,
+    n: usize,
+    rule: u8,
+    weights: [u32; 8],
+    scores: &[u16],
+    work: &[u16],
+    marks: &mut [u32],
+)
+    requires { ⌜ Legible (view m n rule weights (now scores) (now work)) p × (n ≤ length (now marks)) ⌝ }
+    ensures { λ _. ⌜ Marked (view m n rule weights (now (scores .entry)) (now (work .entry))) p (now (marks .exit)) ⌝ }
+{
+    let mut d = 0;
+    while d < n {
+        marks[d] = mark(d, p, m, n, rule, weights, scores, work);
+        d += 1;
+    }
+}
+
+// 1 where x is above the bar.
+fn above(bar: u32, x: u32) -> usize
+    ensures { λ r. ⌜ r ≡ once (ltb bar x) ⌝ }
+{
+    if bar < x {
+        return 1;
+    }
+    0
+}
+
+// How many of n marks are above the bar.
+fn reach(n: usize, bar: u32, marks: &[u32]) -> usize
+    requires { ⌜ (n ≤ 1024) × (n ≤ length (now marks)) ⌝ }
+    ensures { λ r. ⌜ r ≡ reachOf n (now (marks .entry)) bar ⌝ }
+{
+    let mut count = 0;
+    let mut d = 0;
+    while d < n {
+        count += above(bar, marks[d]);
+        d += 1;
+    }
+    count
+}
+
+// The highest bar that k marks are above, which is the k-th low: halved from a bar that no mark is above.
+fn highest_bar(n: usize, k: usize, marks: &[u32]) -> u32
+    requires { ⌜ (n ≤ 1024) × (n ≤ length (now marks)) × (k ≤ reachOf n (now marks) 0) × (reachOf n (now marks) 1073741824 < k) ⌝ }
+    ensures { λ r. ⌜ Barred n k (now (marks .entry)) r ⌝ }
+{
+    let mut bar: u32 = 0;
+    let mut top: u32 = 1073741824;
+    while bar + 1 < top {
+        let middle = bar + (top - bar) / 2;
+        if k <= reach(n, middle, marks) {
+            bar = middle;
+        } else {
+            top = middle;
+        }
+    }
+    bar
+}
+
+// An item stands in the way of stopping: its high is above the bar, and it is not met or its low does not
+// reach the bar.
+fn blocks(bar: u32, high: u32, mark: u32) -> bool
+    ensures { λ r. ⌜ r ≡ (ltb bar high && leb mark bar) ⌝ }
+{
+    if bar < high {
+        return mark <= bar;
     }
     false
 }
 
-// Every item lets the search stop. Most often the first that does not is met early.
-fn settled(
+// No item stands in the way, and at most k have highs above the bar. Most often the first that does is
+// met early.
+fn parted(
     p: usize,
-    last: u16,
-    low: u32,
-    high: u32,
+    k: usize,
+    bar: u32,
     m: usize,
     n: usize,
     rule: u8,
     weights: [u32; 8],
     scores: &[u16],
     work: &[u16],
+    marks: &[u32],
 ) -> bool
-    requires { ⌜ Legible (view m n rule weights (now scores) (now work)) p ⌝ }
-    ensures { λ r. ⌜ r ≡ everyBelow (passesBy (view m n rule weights (now (scores .entry)) (now (work .entry))) p last low high) n ⌝ }
+    requires { ⌜ Legible (view m n rule weights (now scores) (now work)) p × Marked (view m n rule weights (now scores) (now work)) p (now marks) ⌝ }
+    ensures { λ r. ⌜ r ≡ partsOf (view m n rule weights (now (scores .entry)) (now (work .entry))) k p bar ⌝ }
 {
+    let mut count = 0;
     let mut d = 0;
     while d < n {
-        if passes(d, p, last, low, high, m, n, rule, weights, scores, work) {
-            d += 1;
-        } else {
+        let high = bound(true, d, p, m, n, rule, weights, scores, work);
+        if blocks(bar, high, marks[d]) {
             return false;
         }
+        count += above(bar, high);
+        d += 1;
     }
-    true
+    count <= k
 }
 
-// NRA's test after p rows. The first k places of the shortlist are used for it.
+// NRA's test after p rows. No order is made for it: the k-th low tells.
 fn halts(
     p: usize,
     k: usize,
@@ -179,30 +249,17 @@ fn halts(
     weights: [u32; 8],
     scores: &[u16],
     work: &[u16],
-    picks: &mut [u16],
-    lows: &mut [u32],
-    highs: &mut [u32],
 ) -> bool
-    requires { ⌜ Legible (view m n rule weights (now scores) (now work)) p × Spaced k (now picks) (now lows) (now highs) ⌝ }
-    ensures { λ r. ⌜ Tried (view m n rule weights (now (scores .entry)) (now (work .entry))) k p (now (picks .entry)) (now (lows .entry)) (now (highs .entry)) r (now (picks .exit)) (now (lows .exit)) (now (highs .exit)) ⌝ }
+    requires { ⌜ Legible (view m n rule weights (now scores) (now work)) p × (1 ≤ k) ⌝ }
+    ensures { λ r. ⌜ r ≡ haltsOf (view m n rule weights (now (scores .entry)) (now (work .entry))) k p ⌝ }
 {
-    let filled = rank(p, k, m, n, rule, weights, scores, work, picks, lows, highs);
-    if filled < k {
+    let mut marks: [u32; 1024] = [0; 1024];
+    note_marks(p, m, n, rule, weights, scores, work, &mut marks);
+    if reach(n, 0, &marks) < k {
         return false;
     }
-    let end = k - 1;
-    settled(
-        p,
-        picks[end],
-        lows[end],
-        highs[end],
-        m,
-        n,
-        rule,
-        weights,
-        scores,
-        work,
-    )
+    let bar = highest_bar(n, k, &marks);
+    parted(p, k, bar, m, n, rule, weights, scores, work, &marks)
 }
 
 // The row to try next, where it is one of `from` to `to`: twice as deep as before, or half way.
@@ -227,18 +284,15 @@ fn stopping_row(
     weights: [u32; 8],
     scores: &[u16],
     work: &[u16],
-    picks: &mut [u16],
-    lows: &mut [u32],
-    highs: &mut [u32],
 ) -> usize
-    requires { ⌜ Legible (view m n rule weights (now scores) (now work)) n × Spaced k (now picks) (now lows) (now highs) ⌝ }
-    ensures { λ r. ⌜ Halted (view m n rule weights (now (scores .entry)) (now (work .entry))) k r (now (picks .entry)) (now (lows .entry)) (now (highs .entry)) (now (picks .exit)) (now (lows .exit)) (now (highs .exit)) ⌝ }
+    requires { ⌜ Legible (view m n rule weights (now scores) (now work)) n × (1 ≤ k) ⌝ }
+    ensures { λ r. ⌜ Halted (view m n rule weights (now (scores .entry)) (now (work .entry))) k r ⌝ }
 {
     let mut from = 1;
     let mut to = n;
     while from < to {
         let p = probe(from, to);
-        if halts(p, k, m, n, rule, weights, scores, work, picks, lows, highs) {
+        if halts(p, k, m, n, rule, weights, scores, work) {
             to = p;
         } else {
             from = p + 1;
@@ -266,7 +320,7 @@ pub fn run_nra(
     requires { ⌜ Readable (poses m n (now items) (now scores)) (queryWith rule weights) (now work) × Room (poses m n (now items) (now scores)) k (now picks) (now lows) (now highs) (now tally) ⌝ }
     ensures { λ r. ⌜ Finished (poses m n (now (items .entry)) (now (scores .entry))) (queryWith rule weights) k r (now (picks .entry)) (now (lows .entry)) (now (highs .entry)) (now (tally .entry)) (now (picks .exit)) (now (lows .exit)) (now (highs .exit)) (now (tally .exit)) ⌝ }
 {
-    let row = stopping_row(k, m, n, rule, weights, scores, work, picks, lows, highs);
+    let row = stopping_row(k, m, n, rule, weights, scores, work);
     rank(
         row,
         k,

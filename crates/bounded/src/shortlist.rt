@@ -6,7 +6,7 @@ ghost use lib.ListN.{length};
 ghost use Rattle.bounded.specs.Contracts.{aheadOf, Seated, slid, Keeps, Inserted};
 
 // Item d with its low and high stands before item e with its own.
-pub fn ahead(d: u16, low: u32, high: u32, e: u16, lo: u32, hi: u32) -> bool
+fn ahead(d: u16, low: u32, high: u32, e: u16, lo: u32, hi: u32) -> bool
     ensures { λ r. ⌜ r ≡ aheadOf d low high e lo hi ⌝ }
 {
     if lo < low {

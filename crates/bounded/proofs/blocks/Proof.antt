@@ -1,0 +1,14 @@
+-- `bounded::blocks` meets its contract.
+-- Assumes nothing.
+use borrow.Author.Tests.{lt-ltb, le-ltb}
+use Rattle.bounded.proofs.blocks.Statement.{statement}
+use Rattle.bounded.proofs.blocks.Tie as tie
+
+returns : tie.Need-returns
+returns c = rw (lt-ltb ((c .before) .args .bar) ((c .before) .args .high) (c .if1 .taken))
+
+returns-2 : tie.Need-returns-2
+returns-2 c = rw (le-ltb ((c .before) .args .bar) ((c .before) .args .high) (c .if1 .left))
+
+pub blocks-spec : {M : Type 1} → statement M
+blocks-spec = tie.close (tie.spec returns returns-2)
