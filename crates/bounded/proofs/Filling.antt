@@ -2,9 +2,9 @@
 --     fill-more, fill-whole      one entry more; all entries
 --     over-more, table-more      after l, as many entries as ys has; one row more of a table
 -- Assumes nothing.
-use mathlib.Core.Path.{_≡_, refl, sym, ap, _∙_}
-use mathlib.Core.List.{List, [], _∷_, _++_, append-assoc, append-nil}
-use Prim.Native.Nat.{ℕ, zero, suc, _+_, _-_, _*_, _≤_, _<_}
+use mathlib.Core.Path.{_≡_, sym, ap, _∙_}
+use mathlib.Core.List.{List, _++_, append-assoc, append-nil}
+use Prim.Native.Nat.{ℕ, suc, _+_, _-_, _*_, _<_}
 use native.Mathlib.Numerals.{add-one}
 use native.Mathlib.Omega.{arith}
 use lib.ListN.{length, getD, set, take, drop, length-append}

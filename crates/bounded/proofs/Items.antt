@@ -4,14 +4,14 @@
 --     listed-none, listed-met, listed-unmet      the same in the three slices
 --     listed-most                    there are at most k
 -- Assumes nothing.
-use mathlib.Core.Path.{_≡_, refl, sym, ap, _∙_}
-use mathlib.Core.Bool.{Bool, true, false, cond}
-use mathlib.Core.List.{List, [], _∷_, map}
-use Prim.Native.Nat.{ℕ, zero, suc, _+_, _≤_, _<_}
+use mathlib.Core.Path.{_≡_, refl}
+use mathlib.Core.Bool.{true, false}
+use mathlib.Core.List.{List, []}
+use Prim.Native.Nat.{ℕ, suc, _+_, _≤_, _<_}
 use native.Mathlib.Nat.{not-suc-le-zero}
 use native.Mathlib.Numerals.{add-one}
 use native.Mathlib.Omega.{arith}
-use lib.ListN.{length, take, length-take}
+use lib.ListN.{take, length-take}
 use lib.Seq.{take-nil}
 use Rattle.model.specs.Words.{over}
 use Rattle.model.specs.Searches.{ahead, insert, ranked, among}
@@ -20,7 +20,7 @@ use Rattle.laws.specs.Ranking.{take-insert}
 use Rattle.laws.specs.Kept.{kept-item}
 use Rattle.meeting.specs.Contracts.{Located, Small}
 use Rattle.bounded.specs.Bar.{held}
-use Rattle.bounded.specs.Contracts.{View, boundOf, metOf, heldOf, Legible, Listing, Inserted, Listed}
+use Rattle.bounded.specs.Contracts.{View, boundOf, metOf, heldOf, Legible, Inserted, Listed}
 
 pub bound-asks : {v : View} {p : ℕ} (d : ℕ) → Legible v p → d < v .n → Located (v .m) (v .n) d p (v .scores) (v .work) × Small (v .weights) (v .scores)
 bound-asks d w h = (

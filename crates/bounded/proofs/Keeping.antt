@@ -5,9 +5,9 @@
 --     kept-in            else the item is slid in
 -- Assumes nothing.
 use mathlib.Core.Path.{_≡_, refl, sym, ap, _∙_}
-use mathlib.Core.Bool.{Bool, true, false}
-use mathlib.Core.List.{List, [], _∷_, _++_, map}
-use Prim.Native.Nat.{ℕ, zero, suc, _+_, _-_, _≤_, _<_, min}
+use mathlib.Core.Bool.{false}
+use mathlib.Core.List.{List, _∷_, _++_, map}
+use Prim.Native.Nat.{ℕ, _+_, _-_, _≤_, _<_, min}
 use native.Mathlib.Numerals.{add-one}
 use native.Mathlib.Omega.{arith}
 use lib.ListN.{length, getD, take, drop, length-map}
@@ -17,7 +17,7 @@ use Rattle.model.specs.Searches.{ahead, insert, among}
 use Rattle.laws.specs.Lists.{map-at, map-take, map-drop, map-join, over-at}
 use Rattle.laws.specs.Ahead.{ahead-ordering}
 use Rattle.laws.specs.Ranking.{Sorted, sorted-take, insert-sorted, insert-at}
-use Rattle.bounded.specs.Contracts.{aheadOf, Seated, slid, Spaced, Keeps, Listing}
+use Rattle.bounded.specs.Contracts.{aheadOf, Seated, slid, Keeps, Listing}
 use Rattle.bounded.proofs.Sliding.{slid-size, slid-inserts}
 
 pub ahead-bounds : (f g : ℕ → ℕ) (d e : ℕ) → ahead f g d e ≡ aheadOf d (f d) (g d) e (f e) (g e)

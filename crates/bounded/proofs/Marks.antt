@@ -7,18 +7,16 @@
 --     blocks-not             an item stands in the way exactly where it fails its part of the test
 --     halts-few, halts-barred    fewer than k marks: the test fails; else it is told by the highest bar that k marks are above
 -- Assumes nothing.
-use mathlib.Core.Path.{_≡_, refl, sym, ap, _∙_}
-use mathlib.Core.Bool.{Bool, true, false, cond, not, _&&_, _||_, true≢false}
+use mathlib.Core.Path.{_≡_, refl, sym, _∙_}
+use mathlib.Core.Bool.{Bool, true, false, not, _&&_, _||_}
 use mathlib.Core.List.{List}
-use Prim.Native.Nat.{ℕ, zero, suc, _+_, _-_, _*_, _≤_, _<_}
+use Prim.Native.Nat.{ℕ, suc, _+_, _-_, _*_, _≤_, _<_}
 use native.Mathlib.Nat.{mul-le-mul-right}
-use native.Mathlib.Numerals.{add-one}
 use native.Mathlib.Omega.{arith}
 use lib.Dec.{leb, ltb}
 use lib.ListN.{length, getD}
-use borrow.Author.Tests.{leb-true, leb-false, le-leb, lt-leb, ltb-true, lt-ltb, le-ltb}
+use borrow.Author.Tests.{leb-true, leb-false, le-leb, lt-ltb, le-ltb}
 use Rattle.model.specs.Words.{row, over, lastOf}
-use Rattle.model.specs.Given.{joined}
 use Rattle.laws.specs.Tests.{by-cases, and-yes, ltb-not-leb}
 use Rattle.laws.specs.Lists.{row-length, row-at, over-length, over-at}
 use Rattle.laws.specs.Lookups.{once}
@@ -26,7 +24,7 @@ use Rattle.laws.specs.Passing.{passing, passing-same, passing-none, passing-wid
 use Rattle.laws.specs.Ahead.{never}
 use Rattle.laws.specs.Overall.{joined-rises, joined-most, product-most}
 use Rattle.meeting.specs.Contracts.{readAt, unread}
-use Rattle.bounded.specs.Bar.{held, halts, halts-parted, parts-halts}
+use Rattle.bounded.specs.Bar.{held, halts-parted, parts-halts}
 use Rattle.bounded.specs.Contracts.{View, boundOf, metOf, haltsOf, Legible, markOf, Marked, reachOf, Barred, partsOf}
 
 -- what stands for a local score that is not read

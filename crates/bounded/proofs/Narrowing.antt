@@ -3,8 +3,8 @@
 --     Narrowing              what is known while rows are tried
 --     narrowing-starts, narrowing-down, narrowing-up, narrowing-ends     at the start; where a row's test holds; where it fails; at the end
 -- Assumes nothing.
-use mathlib.Core.Path.{_≡_, refl, sym, _∙_}
-use mathlib.Core.Bool.{Bool, true, false}
+use mathlib.Core.Path.{_≡_, _∙_}
+use mathlib.Core.Bool.{true, false}
 use Prim.Native.Nat.{ℕ, suc, _+_, _≤_, _<_}
 use native.Mathlib.Omega.{arith}
 use Rattle.bounded.specs.Contracts.{View, haltsOf, Legible, Halted}

@@ -7,26 +7,26 @@
 -- Assumes nothing.
 use mathlib.Core.Path.{_≡_, refl, sym, ap, _∙_}
 use mathlib.Core.Bool.{Bool, true, false, cond, _&&_, _||_, or-true}
-use mathlib.Core.List.{List, [], _∷_, _++_, map}
+use mathlib.Core.List.{List, [], _∷_, map}
 use Prim.Native.Nat.{ℕ, zero, suc, _+_, _-_, _*_, _≤_, _<_}
 use native.Mathlib.Numerals.{add-one}
 use native.Mathlib.Omega.{arith}
 use lib.Dec.{eqb, leb, ltb}
-use lib.ListN.{length, getD, take, drop, length-map}
+use lib.ListN.{length, getD, take}
 use borrow.Author.Tests.{eq-eqb}
-use Rattle.model.specs.Words.{someBelow, everyBelow, lastOf, table, over}
-use Rattle.model.specs.Given.{Poses, Query, score, place, joined, overall}
-use Rattle.model.specs.Accesses.{rowsNRA, met, tally}
-use Rattle.model.specs.Searches.{Search, ahead, ranked, among, readOr, lowNRA, highNRA, NRA, kept, stops, rows}
+use Rattle.model.specs.Words.{everyBelow, lastOf, table, over}
+use Rattle.model.specs.Given.{Poses, Query, score, place, overall}
+use Rattle.model.specs.Accesses.{rowsNRA, met}
+use Rattle.model.specs.Searches.{ahead, among, readOr, lowNRA, highNRA, NRA, kept, stops}
 use Rattle.laws.specs.Lookups.{once}
 use Rattle.laws.specs.Overall.{joined-same}
 use Rattle.laws.specs.Ranking.{ranked-same}
 use Rattle.laws.specs.Kept.{kept-item}
 use Rattle.lists.specs.Contracts.{poses}
-use Rattle.meeting.specs.Contracts.{queryWith, Readable, Room, Shown, Ran, readAt, unread}
+use Rattle.meeting.specs.Contracts.{queryWith, Readable, Room, readAt, unread}
 use Rattle.bounded.specs.Depth.{some-same, tally-deep, read-deep, met-deep}
 use Rattle.bounded.specs.Bar.{held, halts}
-use Rattle.bounded.specs.Stops.{kept-held, stops-halts, rows-are, kept-full}
+use Rattle.bounded.specs.Stops.{kept-held, stops-halts, rows-are}
 use Rattle.bounded.specs.Contracts.{View, view, boundOf, metOf, heldOf, haltsOf, Legible, Listed, Halted, Finished}
 
 -- ---- equal lows, highs and met items

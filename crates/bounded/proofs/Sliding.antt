@@ -5,10 +5,9 @@
 --     over-beyond            what stands past a list that was written over a slice
 --     slid-inserts           x slid into the first k: the first k of the list with x put in, over what was lent
 -- Assumes nothing.
-use mathlib.Core.Path.{_≡_, refl, sym, ap, _∙_}
-use mathlib.Core.Bool.{true, false}
-use mathlib.Core.List.{List, [], _∷_, _++_, append-assoc}
-use Prim.Native.Nat.{ℕ, zero, suc, _+_, _-_, _≤_, _<_, min}
+use mathlib.Core.Path.{_≡_, sym, ap, _∙_}
+use mathlib.Core.List.{List, _∷_, _++_, append-assoc}
+use Prim.Native.Nat.{ℕ, suc, _+_, _-_, _≤_, _<_, min}
 use native.Mathlib.Omega.{arith}
 use lib.Dec.{ltb}
 use lib.ListN.{length, getD, set, take, drop, length-append, length-take, length-drop, take-append-drop, List·getD-append}
@@ -51,7 +50,7 @@ moved-ends seat last x l h inside = set-after l (take (last - seat) (drop seat l
 pub moved-length : (j last : ℕ) (l : List ℕ) → j ≤ last → last < length l → length (moved j last l) ≡ length l
 unfolding moved
 moved-length j last l h inside =
-    rw (length-append, length-append, length-take, length-take, length-drop, length-drop) (omega arith)
+    rw (length-append, length-append, length-take (suc j) l, length-take (last - j) (drop j l), length-drop j l, length-drop (suc last) l) (omega arith)
 
 pub over-beyond : (l lent : List ℕ) (c : ℕ) → length l ≤ c → drop c (over l lent) ≡ drop c lent
 unfolding over

@@ -6,10 +6,10 @@
 --     halts-stay                 it still holds once lows have risen, highs have fallen and more items are met
 -- Assumes nothing.
 use mathlib.Core.Path.{_≡_, refl, sym, ap, _∙_}
-use mathlib.Core.Bool.{Bool, true, false, cond, _&&_, _||_, or-comm, or-true, true≢false, false≢true}
-use mathlib.Core.Logic.{_⊎_, ⊎-elim}
+use mathlib.Core.Bool.{Bool, true, false, _&&_, _||_, or-comm, or-true, true≢false}
+use mathlib.Core.Logic.{⊎-elim}
 use mathlib.Core.List.{List, [], _∷_}
-use Prim.Native.Nat.{ℕ, zero, suc, _+_, _-_, _≤_, _<_}
+use Prim.Native.Nat.{ℕ, suc, _-_, _≤_, _<_}
 use native.Mathlib.Omega.{arith}
 use lib.Dec.{eqb, leb, ltb}
 use lib.ListN.{length, getD, take, length-take}
@@ -19,7 +19,7 @@ use Rattle.model.specs.Searches.{ahead, ranked, among}
 use Rattle.laws.specs.Tests.{by-cases, and-yes, every-all, every-at}
 use Rattle.laws.specs.Passing.{passing, passing-wider, passing-none, passing-more}
 use Rattle.laws.specs.Ahead.{or-yes, never, Ordering, Ahead, by-low, by-high, by-item, ahead-tells, ahead-ordering, ahead-low}
-use Rattle.laws.specs.Ranking.{Sorted, among-at, sorted-head, sorted-tail, sorted-take, ranked-count, ranked-length, ranked-sorted, ranked-same}
+use Rattle.laws.specs.Ranking.{Sorted, sorted-head, sorted-tail, sorted-take, ranked-count, ranked-length, ranked-sorted}
 use Rattle.laws.specs.Kept.{last-at, kept-item, kept-others, kept-each, kth-passes}
 
 -- the first k met items

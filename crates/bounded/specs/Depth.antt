@@ -6,17 +6,17 @@
 --     all-met                                after n rows every item is met
 --     low-rises, high-falls, low-most        no low falls and no high rises from row to row; a low is at most the high
 -- Assumes nothing.
-use mathlib.Core.Path.{_≡_, refl, sym, ap, _∙_}
-use mathlib.Core.Bool.{Bool, true, false, cond, _&&_, _||_, and-true, and-false}
+use mathlib.Core.Path.{_≡_, refl, sym, _∙_}
+use mathlib.Core.Bool.{Bool, true, false, cond, _&&_, and-true, and-false}
 use mathlib.Core.Logic.{_≢_}
-use mathlib.Core.List.{List, [], _∷_, _++_}
-use Prim.Native.Nat.{ℕ, zero, suc, _+_, _-_, _*_, _≤_, _<_}
+use mathlib.Core.List.{[]}
+use Prim.Native.Nat.{ℕ, zero, suc, _+_, _-_, _≤_, _<_}
 use native.Mathlib.Omega.{arith}
 use lib.Dec.{eqb, leb, ltb}
-use borrow.Author.Tests.{eqb-true, eqb-false, eq-eqb, ne-eqb, leb-true, le-leb, lt-leb, ltb-true, ltb-false, lt-ltb, le-ltb}
+use borrow.Author.Tests.{eqb-true, eqb-false, ltb-true, ltb-false, lt-ltb, le-ltb}
 use Rattle.model.specs.Words.{count, someBelow, table}
-use Rattle.model.specs.Given.{Poses, Query, score, place, overall}
-use Rattle.model.specs.Accesses.{sorted, access, Access, rowNRA, rowsNRA, times, visited, met, tally}
+use Rattle.model.specs.Given.{Poses, Query, score, place}
+use Rattle.model.specs.Accesses.{sorted, rowNRA, rowsNRA, times, visited, met, tally}
 use Rattle.model.specs.Searches.{readOr, lowNRA, highNRA}
 use Rattle.laws.specs.Tests.{by-cases, some-hit, some-found}
 use Rattle.laws.specs.Lists.{table-same}

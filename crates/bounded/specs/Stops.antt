@@ -4,17 +4,17 @@
 --     rows-are                   so NRA stops after row r where the test holds there, or r is n, and it fails after one row less
 --     kept-full                  k items are kept then
 -- Assumes nothing.
-use mathlib.Core.Path.{_≡_, refl, sym, ap, _∙_}
-use mathlib.Core.Bool.{Bool, true, false, _&&_, true≢false}
-use Prim.Native.Nat.{ℕ, zero, suc, _+_, _-_, _≤_, _<_}
+use mathlib.Core.Path.{_≡_, refl, sym, _∙_}
+use mathlib.Core.Bool.{true, false, true≢false}
+use Prim.Native.Nat.{ℕ, suc, _-_, _≤_, _<_}
 use native.Mathlib.Omega.{arith}
 use lib.Dec.{leb, ltb}
 use lib.ListN.{length, length-take}
 use borrow.Author.Tests.{leb-true, ltb-true, ltb-false}
-use Rattle.model.specs.Words.{first, everyBelow, lastOf}
+use Rattle.model.specs.Words.{first}
 use Rattle.model.specs.Given.{Poses, Query}
 use Rattle.model.specs.Accesses.{rowsNRA, met}
-use Rattle.model.specs.Searches.{Search, ahead, ranked, among, lowNRA, highNRA, NRA, order, kept, stops, rows}
+use Rattle.model.specs.Searches.{ahead, ranked, lowNRA, highNRA, NRA, order, kept, stops, rows}
 use Rattle.laws.specs.Tests.{by-cases, and-yes, first-most, first-least, first-passes, first-skips}
 use Rattle.laws.specs.Passing.{passing-all}
 use Rattle.laws.specs.Ranking.{ranked-length}

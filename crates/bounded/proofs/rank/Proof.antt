@@ -1,12 +1,11 @@
 -- `bounded::rank` meets its contract. The loop's invariant: the three slices hold the first k of the items passed (`Listed`), and
 -- have their lengths; the measure is how many items are left.
 -- Assumes nothing.
-use borrow.Author.Needs.{needs}
-use mathlib.Core.Path.{_≡_, refl, sym, ap, _∙_}
-use Prim.Native.Nat.{ℕ, suc, _+_, _-_, _*_, _≤_, _<_}
+use mathlib.Core.Path.{_≡_, refl, _∙_}
+use Prim.Native.Nat.{_-_, _≤_}
 use native.Mathlib.Omega.{arith}
 use lib.ListN.{length}
-use Rattle.bounded.specs.Contracts.{view, Keeps, Spaced, Listed}
+use Rattle.bounded.specs.Contracts.{view, Listed}
 use Rattle.bounded.proofs.Items.{listed-none, listed-most}
 use Rattle.bounded.proofs.rank.Statement.{statement}
 use Rattle.bounded.proofs.rank.Tie as tie
@@ -21,18 +20,22 @@ abbrev μ-loop : tie.MeasureT-loop
 
 loop-holds : tie.Need-loop-holds Inv-loop μ-loop
 loop-holds c =
-    let a = (c .before .before .before .before .before) .args in
+    let at-start = c .before .before .before .before .before in
+    let a = at-start .args in
     let v = view (a .m) (a .n) (a .rule) (a .weights) (a .scores .now) (a .work .now) in
     (omega arith, refl, refl, refl, listed-none v (a .k) (a .p) (a .picks .now) (a .lows .now) (a .highs .now))
 
 consider-requires : tie.Need-consider-requires Inv-loop μ-loop
 consider-requires c κs =
-    let a = (c .before .before .before .before .before .before .before .before .before .before) .args in
+    let at-start = c .before .before .before .before .before .before .before .before .before .before in
+    let at-loop = c .before .before .before .before in
+    let in-turn = c .before .before .before in
+    let a = at-start .args in
     let v = view (a .m) (a .n) (a .rule) (a .weights) (a .scores .now) (a .work .now) in
-    let inv = (c .before .before .before .before) .loop .inv in
-    let room = (c .before .before .before .before .before .before .before .before .before .before) .pre .1 in (
-      (c .before .before .before .before .before .before .before .before .before .before) .pre .0,
-      (c .before .before .before) .loop-test .taken,
+    let inv = at-loop .loop .inv in
+    let room = at-start .pre .1 in (
+      at-start .pre .0,
+      in-turn .loop-test .taken,
       record {
         room = record {
           k-least = room .k-least;
@@ -45,36 +48,53 @@ consider-requires c κs =
     )
 
 add-d : tie.Need-add-d Inv-loop μ-loop
-add-d c = omega (arith, (c .before .before .before .before .before .before .before .before .before .before) .loop-test .taken, (c .before .before .before .before .before .before .before .before .before .before .before .before .before .before .before .before .before) .pre .0 .n-most)
+add-d c =
+    let in-turn = c .before .before .before .before .before .before .before .before .before .before in
+    let at-start = c .before .before .before .before .before .before .before .before .before .before .before .before .before .before .before .before .before in
+    omega (arith, in-turn .loop-test .taken, at-start .pre .0 .n-most)
 
 loop-less : tie.Need-loop-less Inv-loop μ-loop
-loop-less c = omega (arith, (c .before .before .before .before .before .before .before .before .before .before) .loop-test .taken)
+loop-less c =
+    let in-turn = c .before .before .before .before .before .before .before .before .before .before in
+    omega (arith, in-turn .loop-test .taken)
 
 loop-again : tie.Need-loop-again Inv-loop μ-loop
 loop-again c =
-    let a = (c .before .before .before .before .before .before .before .before .before .before .before .before .before .before .before .before .before) .args in
-    let inv = (c .before .before .before .before .before .before .before .before .before .before .before) .loop .inv in
-    let kept = (c .before .before .before .before .before .before) .consider .kept in (
-      omega (arith, (c .before .before .before .before .before .before .before .before .before .before) .loop-test .taken),
+    let at-start = c .before .before .before .before .before .before .before .before .before .before .before .before .before .before .before .before .before in
+    let at-loop = c .before .before .before .before .before .before .before .before .before .before .before in
+    let after-consider = c .before .before .before .before .before .before in
+    let in-turn = c .before .before .before .before .before .before .before .before .before .before in
+    let a = at-start .args in
+    let inv = at-loop .loop .inv in
+    let kept = after-consider .consider .kept in (
+      omega (arith, in-turn .loop-test .taken),
       kept .1 .1 .1 .1 .1 .1 .1 .1 .1 .1 .0 ∙ inv .1,
       kept .1 .1 .1 .1 .1 .1 .1 .1 .1 .1 .1 .0 ∙ inv .2,
       kept .1 .1 .1 .1 .1 .1 .1 .1 .1 .1 .1 .1 .0 ∙ inv .3,
-      (c .before .before .before .before .before .before) .consider .ensures .considers (a .picks .now) (a .lows .now) (a .highs .now) (inv .4),
+      after-consider .consider .ensures .considers (a .picks .now) (a .lows .now) (a .highs .now) (inv .4),
     )
 
 same-length : tie.Need-same-length Inv-loop μ-loop
-same-length c = (c .before) .loop .inv .1
+same-length c =
+    let at-loop = c .before in
+    at-loop .loop .inv .1
 
 same-length-2 : tie.Need-same-length-2 Inv-loop μ-loop
-same-length-2 c = (c .before) .loop .inv .2
+same-length-2 c =
+    let at-loop = c .before in
+    at-loop .loop .inv .2
 
 same-length-3 : tie.Need-same-length-3 Inv-loop μ-loop
-same-length-3 c = (c .before) .loop .inv .3
+same-length-3 c =
+    let at-loop = c .before in
+    at-loop .loop .inv .3
 
 returns : tie.Need-returns Inv-loop μ-loop
 returns c =
-    let at-loop = (c .before) in
-    let whole : at-loop .loop .d ≡ (c .before .before .before .before .before .before .before) .args .n = omega (arith, at-loop .loop .inv .0, c .loop-test .left) in
+    let at-loop = c .before in
+    let at-start = c .before .before .before .before .before .before .before in
+    let at-loop = at-loop in
+    let whole : at-loop .loop .d ≡ at-start .args .n = omega (arith, at-loop .loop .inv .0, c .loop-test .left) in
     rw whole at (at-loop .loop .inv .4)
 
 pub rank-spec : {M : Type 1} → statement M

@@ -1,12 +1,11 @@
 -- `bounded::reach` meets its contract. The loop's invariant: the count is that of the marks passed; the measure is how many are left.
 -- Assumes nothing.
-use borrow.Author.Needs.{needs}
-use mathlib.Core.Path.{_≡_, refl, sym, ap, _∙_}
-use Prim.Native.Nat.{ℕ, suc, _+_, _-_, _*_, _≤_, _<_}
+use mathlib.Core.Path.{_≡_, refl}
+use Prim.Native.Nat.{_-_, _≤_}
 use native.Mathlib.Numerals.{add-one}
 use native.Mathlib.Omega.{arith}
 use lib.Dec.{ltb}
-use lib.ListN.{length, getD}
+use lib.ListN.{getD}
 use Rattle.laws.specs.Passing.{passing, passing-most}
 use Rattle.bounded.specs.Contracts.{reachOf}
 use Rattle.bounded.proofs.Marks.{once-most}
@@ -24,10 +23,15 @@ unfolding reachOf passing
 loop-holds c = (omega arith, refl)
 
 mul-above : tie.Need-mul-above Inv-loop μ-loop
-mul-above c = omega (arith, c .loop-test .taken, (c .before .before .before) .pre)
+mul-above c =
+    let at-start = c .before .before .before in
+    omega (arith, c .loop-test .taken, at-start .pre)
 
 shared-slice-read-above : tie.Need-shared-slice-read-above Inv-loop μ-loop
-shared-slice-read-above c = omega (arith, (c .before) .loop-test .taken, (c .before .before .before .before) .pre)
+shared-slice-read-above c =
+    let in-turn = c .before in
+    let at-start = c .before .before .before .before in
+    omega (arith, in-turn .loop-test .taken, at-start .pre)
 
 above-requires : tie.Need-above-requires Inv-loop μ-loop
 above-requires c κs = tt
@@ -45,24 +49,37 @@ one-more c =
     rw (c .above .ensures) (once-most (ltb (a .bar) (getD (a .marks .now) (c .before .before .before .loop .d) 0)))
 
 add-count : tie.Need-add-count Inv-loop μ-loop
-add-count c = omega (arith, count-most ((c .before .before .before)), one-more (c), (c .before .before) .loop-test .taken, (c .before .before .before .before .before) .pre)
+add-count c =
+    let at-loop = c .before .before .before in
+    let in-turn = c .before .before in
+    let at-start = c .before .before .before .before .before in
+    omega (arith, count-most at-loop, one-more c, in-turn .loop-test .taken, at-start .pre)
 
 add-d : tie.Need-add-d Inv-loop μ-loop
-add-d c = omega (arith, (c .before .before) .loop-test .taken, (c .before .before .before .before .before) .pre)
+add-d c =
+    let in-turn = c .before .before in
+    let at-start = c .before .before .before .before .before in
+    omega (arith, in-turn .loop-test .taken, at-start .pre)
 
 loop-less : tie.Need-loop-less Inv-loop μ-loop
-loop-less c = omega (arith, (c .before .before) .loop-test .taken)
+loop-less c =
+    let in-turn = c .before .before in
+    omega (arith, in-turn .loop-test .taken)
 
 loop-again : tie.Need-loop-again Inv-loop μ-loop
 unfolding reachOf passing
 loop-again c =
-    let at-loop = (c .before .before .before) in
-    (omega (arith, (c .before .before) .loop-test .taken), rw (add-one (at-loop .loop .d), at-loop .loop .inv .1, c .above .ensures))
+    let at-loop = c .before .before .before in
+    let in-turn = c .before .before in
+    let at-loop = at-loop in
+    (omega (arith, in-turn .loop-test .taken), rw (add-one (at-loop .loop .d), at-loop .loop .inv .1, c .above .ensures))
 
 returns : tie.Need-returns Inv-loop μ-loop
 returns c =
-    let at-loop = (c .before) in
-    let whole : at-loop .loop .d ≡ (c .before .before .before) .args .n = omega (arith, at-loop .loop .inv .0, c .loop-test .left) in
+    let at-loop = c .before in
+    let at-start = c .before .before .before in
+    let at-loop = at-loop in
+    let whole : at-loop .loop .d ≡ at-start .args .n = omega (arith, at-loop .loop .inv .0, c .loop-test .left) in
     rw whole at (at-loop .loop .inv .1)
 
 pub reach-spec : {M : Type 1} → statement M

@@ -1,9 +1,9 @@
 -- `bounded::seen` meets its contract. The loop's invariant: in none of the lists passed is the position at most p; the measure is
 -- how many lists are left.
 -- Assumes nothing.
-use mathlib.Core.Path.{_≡_, refl, sym, ap, _∙_}
-use mathlib.Core.Bool.{Bool, true, false}
-use Prim.Native.Nat.{ℕ, suc, _+_, _-_, _*_, _≤_, _<_}
+use mathlib.Core.Path.{_≡_, refl, sym}
+use mathlib.Core.Bool.{false}
+use Prim.Native.Nat.{_+_, _-_, _*_, _≤_}
 use native.Mathlib.Numerals.{add-one}
 use native.Mathlib.Omega.{arith}
 use lib.Dec.{leb}
@@ -32,48 +32,72 @@ here c =
     omega (arith, table-room (c .before .loop .i) (at-start .args .m) (at-start .args .n) (c .loop-test .taken), at-start .pre .3)
 
 mul-base : tie.Need-mul-base Inv-loop μ-loop
-mul-base c = omega (arith, here (c), (c .before .before .before) .pre, (c .before .before .before) .good)
+mul-base c =
+    let at-start = c .before .before .before in
+    omega (arith, here c, at-start .pre, at-start .good)
 
 add-at : tie.Need-add-at Inv-loop μ-loop
-add-at c = omega (arith, here (c), (c .before .before .before) .pre, (c .before .before .before) .good)
+add-at c =
+    let at-start = c .before .before .before in
+    omega (arith, here c, at-start .pre, at-start .good)
 
 mul-wide : tie.Need-mul-wide Inv-loop μ-loop
-mul-wide c = omega (arith, here (c), (c .before .before .before) .pre, (c .before .before .before) .good)
+mul-wide c =
+    let at-start = c .before .before .before in
+    omega (arith, here c, at-start .pre, at-start .good)
 
 shared-slice-read-wide : tie.Need-shared-slice-read-wide Inv-loop μ-loop
-shared-slice-read-wide c = omega (arith, here ((c .before)), (c .before .before .before .before) .pre)
+shared-slice-read-wide c =
+    let in-turn = c .before in
+    let at-start = c .before .before .before .before in
+    omega (arith, here in-turn, at-start .pre)
 
 wide-requires : tie.Need-wide-requires Inv-loop μ-loop
 wide-requires c κs = tt
 
 returns : tie.Need-returns Inv-loop μ-loop
 returns c =
-    let a = (c .before .before .before .before .before .before) .args in
-    let i = (c .before .before .before .before) .loop .i in
-    let early = rw ((c .before) .wide .ensures) at (c .if1 .taken) in
-    sym (some-hit (λ i. leb (getD (a .work .now) (i * a .n + a .d) 0) (a .p)) (a .m) i ((c .before .before .before) .loop-test .taken)
+    let at-start = c .before .before .before .before .before .before in
+    let at-loop = c .before .before .before .before in
+    let after-wide = c .before in
+    let in-turn = c .before .before .before in
+    let a = at-start .args in
+    let i = at-loop .loop .i in
+    let early = rw (after-wide .wide .ensures) at (c .if1 .taken) in
+    sym (some-hit (λ i. leb (getD (a .work .now) (i * a .n + a .d) 0) (a .p)) (a .m) i (in-turn .loop-test .taken)
     (le-leb (getD (a .work .now) (i * a .n + a .d) 0) (a .p) early))
 
 add-i : tie.Need-add-i Inv-loop μ-loop
-add-i c = omega (arith, (c .before .before .before) .loop-test .taken, (c .before .before .before .before .before .before) .pre)
+add-i c =
+    let in-turn = c .before .before .before in
+    let at-start = c .before .before .before .before .before .before in
+    omega (arith, in-turn .loop-test .taken, at-start .pre)
 
 loop-less : tie.Need-loop-less Inv-loop μ-loop
-loop-less c = omega (arith, (c .before .before .before) .loop-test .taken)
+loop-less c =
+    let in-turn = c .before .before .before in
+    omega (arith, in-turn .loop-test .taken)
 
 loop-again : tie.Need-loop-again Inv-loop μ-loop
 unfolding someBelow
 loop-again c =
-    let a = (c .before .before .before .before .before .before) .args in
-    let i = (c .before .before .before .before) .loop .i in
-    let late = rw ((c .before) .wide .ensures) at (c .if1 .left) in (
-      omega (arith, (c .before .before .before) .loop-test .taken),
-      rw (add-one i, (c .before .before .before .before) .loop .inv .1, lt-leb (getD (a .work .now) (i * a .n + a .d) 0) (a .p) late),
+    let at-start = c .before .before .before .before .before .before in
+    let at-loop = c .before .before .before .before in
+    let after-wide = c .before in
+    let in-turn = c .before .before .before in
+    let a = at-start .args in
+    let i = at-loop .loop .i in
+    let late = rw (after-wide .wide .ensures) at (c .if1 .left) in (
+      omega (arith, in-turn .loop-test .taken),
+      rw (add-one i, at-loop .loop .inv .1, lt-leb (getD (a .work .now) (i * a .n + a .d) 0) (a .p) late),
     )
 
 returns-2 : tie.Need-returns-2 Inv-loop μ-loop
 returns-2 c =
-    let at-loop = (c .before) in
-    let whole : at-loop .loop .i ≡ (c .before .before .before) .args .m = omega (arith, at-loop .loop .inv .0, c .loop-test .left) in
+    let at-loop = c .before in
+    let at-start = c .before .before .before in
+    let at-loop = at-loop in
+    let whole : at-loop .loop .i ≡ at-start .args .m = omega (arith, at-loop .loop .inv .0, c .loop-test .left) in
     sym (rw whole at (at-loop .loop .inv .1))
 
 pub seen-spec : {M : Type 1} → statement M

@@ -1,7 +1,6 @@
 -- `bounded::shortlist::keep` meets its contract: seat k leaves everything as it is, any other seat is where the item is slid in.
 -- Assumes nothing.
 use borrow.Author.Needs.{needs}
-use Rattle.bounded.specs.Contracts.{Inserted}
 use Rattle.bounded.proofs.Keeping.{kept-out, kept-in}
 use Rattle.bounded.proofs.shortlist.keep.Statement.{statement}
 use Rattle.bounded.proofs.shortlist.keep.Tie as tie
@@ -20,8 +19,10 @@ same-length-3 c = search needs
 
 returns : tie.Need-returns
 returns c =
-    let room = (c .before .before .before .before .before .before .before .before) .pre in
-    let found = (c .before) .seat .ensures in
+    let at-start = c .before .before .before .before .before .before .before .before in
+    let after-seat = c .before in
+    let room = at-start .pre in
+    let found = after-seat .seat .ensures in
     record { inserts = λ f g l picks₀ lows₀ highs₀ low-is high-is new at. kept-out at low-is high-is new room found (c .if1 .taken) }
 
 last-place-requires : tie.Need-last-place-requires
@@ -50,15 +51,22 @@ same-length-6 c = search needs
 
 returns-2 : tie.Need-returns-2
 returns-2 c =
-    let room = (c .before .before .before .before .before .before .before .before .before .before .before .before .before .before .before .before .before .before .before .before .before) .pre in
-    let found = (c .before .before .before .before .before .before .before .before .before .before .before .before .before .before) .seat .ensures in
-    let last-is = (c .before .before .before .before .before .before .before .before .before .before .before .before) .last-place .ensures in
-    let items = (c .before .before .before .before .before .before .before .before .before .before) .slide-items .ensures in
-    let low-slid = (c .before .before .before .before .before .before) .slide-bounds .ensures in
-    let high-slid = (c .before .before) .slide-bounds2 .ensures in
+    let at-start = c .before .before .before .before .before .before .before .before .before .before .before .before .before .before .before .before .before .before .before .before .before in
+    let after-seat = c .before .before .before .before .before .before .before .before .before .before .before .before .before .before in
+    let after-last-place = c .before .before .before .before .before .before .before .before .before .before .before .before in
+    let after-slide-items = c .before .before .before .before .before .before .before .before .before .before in
+    let after-slide-bounds = c .before .before .before .before .before .before in
+    let after-slide-bounds2 = c .before .before in
+    let else1 = c .before .before .before .before .before .before .before .before .before .before .before .before .before in
+    let room = at-start .pre in
+    let found = after-seat .seat .ensures in
+    let last-is = after-last-place .last-place .ensures in
+    let items = after-slide-items .slide-items .ensures in
+    let low-slid = after-slide-bounds .slide-bounds .ensures in
+    let high-slid = after-slide-bounds2 .slide-bounds2 .ensures in
     record {
       inserts = λ f g l picks₀ lows₀ highs₀ low-is high-is new at.
-          kept-in at low-is high-is new room found ((c .before .before .before .before .before .before .before .before .before .before .before .before .before) .if1 .left) last-is items low-slid high-slid;
+          kept-in at low-is high-is new room found (else1 .if1 .left) last-is items low-slid high-slid;
     }
 
 pub keep-spec : {M : Type 1} → statement M

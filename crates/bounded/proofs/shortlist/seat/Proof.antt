@@ -3,11 +3,11 @@
 use mathlib.Core.Path.{_≡_, sym, _∙_}
 use mathlib.Core.Bool.{true}
 use mathlib.Core.Logic.{⊎-elim}
-use Prim.Native.Nat.{ℕ, suc, _-_, _≤_, _<_}
+use Prim.Native.Nat.{ℕ, _-_, _≤_, _<_}
 use native.Mathlib.Nat.{eq-or-lt-of-le}
 use native.Mathlib.Omega.{arith}
-use lib.ListN.{length, getD}
-use Rattle.bounded.specs.Contracts.{aheadOf, Seated}
+use lib.ListN.{getD}
+use Rattle.bounded.specs.Contracts.{aheadOf}
 use Rattle.bounded.proofs.shortlist.seat.Statement.{statement}
 use Rattle.bounded.proofs.shortlist.seat.Tie as tie
 
@@ -25,34 +25,59 @@ sub-at : tie.Need-sub-at Inv-loop μ-loop
 sub-at c = omega arith
 
 mul-ahead : tie.Need-mul-ahead Inv-loop μ-loop
-mul-ahead c = omega (arith, (c .before) .loop .inv .0, (c .before .before .before .before .before) .pre, (c .before .before .before .before .before) .good)
+mul-ahead c =
+    let at-loop = c .before in
+    let at-start = c .before .before .before .before .before in
+    omega (arith, at-loop .loop .inv .0, at-start .pre, at-start .good)
 
 shared-slice-read-ahead : tie.Need-shared-slice-read-ahead Inv-loop μ-loop
-shared-slice-read-ahead c = omega (arith, (c .before .before) .loop .inv .0, (c .before) .loop-test .taken, (c .before .before .before .before .before .before) .pre)
+shared-slice-read-ahead c =
+    let at-loop = c .before .before in
+    let in-turn = c .before in
+    let at-start = c .before .before .before .before .before .before in
+    omega (arith, at-loop .loop .inv .0, in-turn .loop-test .taken, at-start .pre)
 
 mul-ahead-2 : tie.Need-mul-ahead-2 Inv-loop μ-loop
-mul-ahead-2 c = omega (arith, (c .before .before) .loop .inv .0, (c .before .before .before .before .before .before) .pre, (c .before .before .before .before .before .before) .good)
+mul-ahead-2 c =
+    let at-loop = c .before .before in
+    let at-start = c .before .before .before .before .before .before in
+    omega (arith, at-loop .loop .inv .0, at-start .pre, at-start .good)
 
 shared-slice-read-ahead-2 : tie.Need-shared-slice-read-ahead-2 Inv-loop μ-loop
-shared-slice-read-ahead-2 c = omega (arith, (c .before .before .before) .loop .inv .0, (c .before .before) .loop-test .taken, (c .before .before .before .before .before .before .before) .pre)
+shared-slice-read-ahead-2 c =
+    let at-loop = c .before .before .before in
+    let in-turn = c .before .before in
+    let at-start = c .before .before .before .before .before .before .before in
+    omega (arith, at-loop .loop .inv .0, in-turn .loop-test .taken, at-start .pre)
 
 mul-ahead-3 : tie.Need-mul-ahead-3 Inv-loop μ-loop
-mul-ahead-3 c = omega (arith, (c .before .before .before) .loop .inv .0, (c .before .before .before .before .before .before .before) .pre, (c .before .before .before .before .before .before .before) .good)
+mul-ahead-3 c =
+    let at-loop = c .before .before .before in
+    let at-start = c .before .before .before .before .before .before .before in
+    omega (arith, at-loop .loop .inv .0, at-start .pre, at-start .good)
 
 shared-slice-read-ahead-3 : tie.Need-shared-slice-read-ahead-3 Inv-loop μ-loop
-shared-slice-read-ahead-3 c = omega (arith, (c .before .before .before .before) .loop .inv .0, (c .before .before .before) .loop-test .taken, (c .before .before .before .before .before .before .before .before) .pre)
+shared-slice-read-ahead-3 c =
+    let at-loop = c .before .before .before .before in
+    let in-turn = c .before .before .before in
+    let at-start = c .before .before .before .before .before .before .before .before in
+    omega (arith, at-loop .loop .inv .0, in-turn .loop-test .taken, at-start .pre)
 
 ahead-requires : tie.Need-ahead-requires Inv-loop μ-loop
 ahead-requires c κs = tt
 
 loop-less : tie.Need-loop-less Inv-loop μ-loop
-loop-less c = omega (arith, (c .before .before .before .before .before) .loop-test .taken)
+loop-less c =
+    let in-turn = c .before .before .before .before .before in
+    omega (arith, in-turn .loop-test .taken)
 
 loop-again : tie.Need-loop-again Inv-loop μ-loop
 loop-again c =
-    let at-loop = (c .before .before .before .before .before .before) in
+    let at-loop = c .before .before .before .before .before .before in
+    let after-ahead = c .before in
+    let at-loop = at-loop in
     let j = at-loop .loop .j in
-    let here = sym ((c .before) .ahead .ensures) ∙ c .if1 .taken in (
+    let here = sym (after-ahead .ahead .ensures) ∙ c .if1 .taken in (
       omega (arith, at-loop .loop .inv .0),
       λ i h l.
           ⊎-elim
@@ -63,9 +88,11 @@ loop-again c =
 
 returns : tie.Need-returns Inv-loop μ-loop
 returns c =
-    let at-loop = (c .before .before .before .before .before .before) in
+    let at-loop = c .before .before .before .before .before .before in
+    let after-ahead = c .before in
+    let at-loop = at-loop in
     let j = at-loop .loop .j in
-    let here = sym ((c .before) .ahead .ensures) ∙ c .if1 .left in
+    let here = sym (after-ahead .ahead .ensures) ∙ c .if1 .left in
     record {
       seat-most = at-loop .loop .inv .0;
       before-rest = at-loop .loop .inv .1;
@@ -74,7 +101,8 @@ returns c =
 
 returns-2 : tie.Need-returns-2 Inv-loop μ-loop
 returns-2 c =
-    let at-loop = (c .before) in
+    let at-loop = c .before in
+    let at-loop = at-loop in
     record {
       seat-most = at-loop .loop .inv .0;
       before-rest = at-loop .loop .inv .1;

@@ -2,8 +2,8 @@
 -- left.
 -- Assumes nothing.
 use borrow.Author.Needs.{needs}
-use mathlib.Core.Path.{_≡_, refl, sym, ap, _∙_}
-use Prim.Native.Nat.{ℕ, suc, _+_, _-_, _≤_, _<_}
+use mathlib.Core.Path.{_≡_, refl}
+use Prim.Native.Nat.{_-_, _≤_}
 use native.Mathlib.Numerals.{add-one}
 use native.Mathlib.Omega.{arith}
 use lib.Dec.{ltb}
@@ -31,16 +31,26 @@ slice-write-row : tie.Need-slice-write-row Inv-loop μ-loop
 slice-write-row c = search needs
 
 add-q : tie.Need-add-q Inv-loop μ-loop
-add-q c = omega (arith, (c .before .before) .loop .inv .1, (c .before) .loop-test .taken, (c .before .before .before .before) .good)
+add-q c =
+    let at-loop = c .before .before in
+    let in-turn = c .before in
+    let at-start = c .before .before .before .before in
+    omega (arith, at-loop .loop .inv .1, in-turn .loop-test .taken, at-start .good)
 
 loop-less : tie.Need-loop-less Inv-loop μ-loop
-loop-less c = omega (arith, (c .before .before) .loop .inv .1, (c .before) .loop-test .taken)
+loop-less c =
+    let at-loop = c .before .before in
+    let in-turn = c .before in
+    omega (arith, at-loop .loop .inv .1, in-turn .loop-test .taken)
 
 loop-again : tie.Need-loop-again Inv-loop μ-loop
 loop-again c =
-    let at-loop = (c .before .before) in
-    let a = (c .before .before .before .before) .args in
-    let inside = (c .before) .loop-test .taken in (
+    let at-loop = c .before .before in
+    let at-start = c .before .before .before .before in
+    let in-turn = c .before in
+    let at-loop = at-loop in
+    let a = at-start .args in
+    let inside = in-turn .loop-test .taken in (
       omega (arith, at-loop .loop .inv .1),
       simp length-set (at-loop .loop .inv .1),
       rw (c .visits .ensures, at-loop .loop .inv .2, add-one (at-loop .loop .q))
@@ -48,12 +58,16 @@ loop-again c =
     )
 
 same-length : tie.Need-same-length Inv-loop μ-loop
-same-length c = (c .before) .loop .inv .1
+same-length c =
+    let at-loop = c .before in
+    at-loop .loop .inv .1
 
 returns : tie.Need-returns Inv-loop μ-loop
 returns c =
-    let at-loop = (c .before) in
-    let a = (c .before .before .before) .args in
+    let at-loop = c .before in
+    let at-start = c .before .before .before in
+    let at-loop = at-loop in
+    let a = at-start .args in
     let whole : at-loop .loop .q ≡ length (a .row .now) = omega (arith, at-loop .loop .inv .0, at-loop .loop .inv .1, c .loop-test .left) in
     rw (at-loop .loop .inv .2, whole) (fill-whole (λ q. once (ltb q (a .p))) (a .row .now))
 
