@@ -13,7 +13,8 @@ use borrow.Rule.Slice.PartMut.{putMid}
 use Rattle.model.specs.Words.{row, table, over}
 use Rattle.laws.specs.Lists.{row-length, table-length}
 
-pub fill-more : (f : ℕ → ℕ) (q : ℕ) (lent : List ℕ) → q < length lent → set (over (row f q) lent) q (f q) ≡ over (row f (suc q)) lent
+pub fill-more : (f : ℕ → ℕ) (q : ℕ) (lent : List ℕ) → q < length lent
+    → set (over (row f q) lent) q (f q) ≡ over (row f (suc q)) lent
 unfolding over row
 fill-more f q lent h =
     rw (length-append, row-length f q, drop-cons lent q 0 h)
@@ -24,7 +25,8 @@ pub fill-whole : (f : ℕ → ℕ) (lent : List ℕ) → over (row f (length len
 unfolding over
 fill-whole f lent = rw (row-length f (length lent), drop-length lent) (append-nil (row f (length lent)))
 
-pub over-more : (l ys lent : List ℕ) (a e : ℕ) → length l ≡ a → a + length ys ≡ e → putMid a (e - a) (over l lent) ys ≡ over (l ++ ys) lent
+pub over-more : (l ys lent : List ℕ) (a e : ℕ) → length l ≡ a → a + length ys ≡ e
+    → putMid a (e - a) (over l lent) ys ≡ over (l ++ ys) lent
 unfolding over
 over-more l ys lent a e la le =
     let size : e - a ≡ length ys = omega arith in
@@ -32,7 +34,8 @@ over-more l ys lent a e la le =
     let rest : drop a (l ++ drop (length l) lent) ≡ drop (length l) lent = rw (← la) (drop-append-seam l (drop (length l) lent)) in
     rw (front, rest, size, drop-drop, length-append) (sym (append-assoc l ys (drop (length l + length ys) lent)))
 
-pub table-more : (f : ℕ → ℕ → ℕ) (n i : ℕ) (lent : List ℕ) → putMid (i * n) (i * n + n - i * n) (over (table f n i) lent) (row (f i) n) ≡ over (table f n (suc i)) lent
+pub table-more : (f : ℕ → ℕ → ℕ) (n i : ℕ) (lent : List ℕ)
+    → putMid (i * n) (i * n + n - i * n) (over (table f n i) lent) (row (f i) n) ≡ over (table f n (suc i)) lent
 unfolding table
 table-more f n i lent =
     over-more (table f n i) (row (f i) n) lent (i * n) (i * n + n) (table-length f n i)

@@ -22,7 +22,8 @@ use Rattle.meeting.specs.Contracts.{Located, Small}
 use Rattle.bounded.specs.Bar.{held}
 use Rattle.bounded.specs.Contracts.{View, boundOf, metOf, heldOf, Legible, Inserted, Listed}
 
-pub bound-asks : {v : View} {p : ℕ} (d : ℕ) → Legible v p → d < v .n → Located (v .m) (v .n) d p (v .scores) (v .work) × Small (v .weights) (v .scores)
+pub bound-asks : {v : View} {p : ℕ} (d : ℕ) → Legible v p → d < v .n
+    → Located (v .m) (v .n) d p (v .scores) (v .work) × Small (v .weights) (v .scores)
 bound-asks d w h = (
   record {
     m-most = w .m-most;
@@ -43,7 +44,8 @@ module _ (v : View) (k p : ℕ) where
   unfolding heldOf held ranked
   held-none = take-nil k
 
-  held-met : (d : ℕ) → metOf v p d ≡ true → heldOf v k p (suc d) ≡ take k (insert (ahead (boundOf v false p) (boundOf v true p)) d (heldOf v k p d))
+  held-met : (d : ℕ) → metOf v p d ≡ true
+      → heldOf v k p (suc d) ≡ take k (insert (ahead (boundOf v false p) (boundOf v true p)) d (heldOf v k p d))
   unfolding heldOf held ranked
   held-met d y =
       let before = ahead (boundOf v false p) (boundOf v true p) in
@@ -79,7 +81,9 @@ module _ (v : View) (k p : ℕ) where
     listed-most =
         omega (arith, at .listing .filled-is, length-take k (ranked (ahead (boundOf v false p) (boundOf v true p)) (metOf v p) d))
 
-    pub listed-met : {low high r : ℕ} {picks′ lows′ highs′ : List ℕ} → metOf v p d ≡ true → low ≡ boundOf v false p d → high ≡ boundOf v true p d → Inserted d low high k filled picks lows highs r picks′ lows′ highs′ → Listed v k p (d + 1) picks₀ lows₀ highs₀ r picks′ lows′ highs′
+    pub listed-met : {low high r : ℕ} {picks′ lows′ highs′ : List ℕ} → metOf v p d ≡ true → low ≡ boundOf v false p d
+        → high ≡ boundOf v true p d → Inserted d low high k filled picks lows highs r picks′ lows′ highs′
+        → Listed v k p (d + 1) picks₀ lows₀ highs₀ r picks′ lows′ highs′
     listed-met y low-is high-is new =
         record {
           listing =

@@ -25,7 +25,8 @@ unfolding ahead aheadOf
 ahead-bounds f g d e = refl
 
 -- a value put in at a seat, mapped
-map-seat : (f : ℕ → ℕ) (k r d : ℕ) (l : List ℕ) → map f (take k (take r l ++ d ∷ drop r l)) ≡ take k (take r (map f l) ++ f d ∷ drop r (map f l))
+map-seat : (f : ℕ → ℕ) (k r d : ℕ) (l : List ℕ)
+    → map f (take k (take r l ++ d ∷ drop r l)) ≡ take k (take r (map f l) ++ f d ∷ drop r (map f l))
 map-seat f k r d l =
     map-take f k (take r l ++ d ∷ drop r l)
     ∙ ap (take k) (map-join f (take r l) (d ∷ drop r l) ∙ rw (map-take f r l, map-drop f r l))
@@ -43,7 +44,8 @@ module _ {f g : ℕ → ℕ} {l picks₀ lows₀ highs₀ picks lows highs : Lis
   high-at : (j : ℕ) → j < length l → getD highs j 0 ≡ g (getD l j 0)
   high-at j h = rw (at .shown .highs-are) (over-at (map g l) highs₀ j 0 (rw length-map h) ∙ map-at g l j h)
 
-  ahead-at : (j : ℕ) → j < length l → ahead f g d (getD l j 0) ≡ aheadOf d low high (getD picks j 0) (getD lows j 0) (getD highs j 0)
+  ahead-at : (j : ℕ) → j < length l
+      → ahead f g d (getD l j 0) ≡ aheadOf d low high (getD picks j 0) (getD lows j 0) (getD highs j 0)
   ahead-at j h = rw (low-is, high-is, pick-at j h, low-at j h, high-at j h) (ahead-bounds f g d (getD l j 0))
 
   module _ {r : ℕ} (t : Seated d low high filled picks lows highs r) where
@@ -69,14 +71,17 @@ module _ {f g : ℕ → ℕ} {l picks₀ lows₀ highs₀ picks lows highs : Lis
         rw same at
 
     -- a slice of what stands for each item, x for item d
-    slides : (h : ℕ → ℕ) (x : ℕ) (lent list : List ℕ) (last : ℕ) → (r ≡ k → ⊥) → last ≡ min filled (k - 1) → x ≡ h d → list ≡ over (map h l) lent → slid r last x list ≡ over (map h (take k (insert (ahead f g) d l))) lent
+    slides : (h : ℕ → ℕ) (x : ℕ) (lent list : List ℕ) (last : ℕ) → (r ≡ k → ⊥) → last ≡ min filled (k - 1) → x ≡ h d
+        → list ≡ over (map h l) lent → slid r last x list ≡ over (map h (take k (insert (ahead f g) d l))) lent
     slides h x lent list last inside is-last x-is list-is =
         let same : length (map h l) ≡ length l = length-map l h in
         rw (list-is, x-is, seat-is, map-seat h k r d l)
         (slid-inserts (map h l) lent k r last (h d) (omega (arith, within)) (omega (arith, t .seat-most, room .filled-most))
         (omega (arith, at .filled-is, room .filled-most)) (omega (arith, at .filled-is)))
 
-    pub kept-in : {last : ℕ} {picks′ lows′ highs′ : List ℕ} → (r ≡ k → ⊥) → last ≡ min filled (k - 1) → picks′ ≡ slid r last d picks → lows′ ≡ slid r last low lows → highs′ ≡ slid r last high highs → Listing f g (take k (insert (ahead f g) d l)) picks₀ lows₀ highs₀ (last + 1) picks′ lows′ highs′
+    pub kept-in : {last : ℕ} {picks′ lows′ highs′ : List ℕ} → (r ≡ k → ⊥) → last ≡ min filled (k - 1)
+        → picks′ ≡ slid r last d picks → lows′ ≡ slid r last low lows → highs′ ≡ slid r last high highs
+        → Listing f g (take k (insert (ahead f g) d l)) picks₀ lows₀ highs₀ (last + 1) picks′ lows′ highs′
     kept-in {last} inside is-last picks-are lows-are highs-are =
         record {
           in-order = in-order-then;

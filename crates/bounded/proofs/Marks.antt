@@ -28,19 +28,22 @@ use Rattle.bounded.specs.Bar.{held, halts-parted, parts-halts}
 use Rattle.bounded.specs.Contracts.{View, boundOf, metOf, haltsOf, Legible, markOf, Marked, reachOf, Barred, partsOf}
 
 -- what stands for a local score that is not read
-unread-most : (high : Bool) (n : ℕ) (scores : List ℕ) (p i : ℕ) → ((j : ℕ) → getD scores j 0 ≤ 65535) → unread high n scores p i ≤ 65535
+unread-most : (high : Bool) (n : ℕ) (scores : List ℕ) (p i : ℕ) → ((j : ℕ) → getD scores j 0 ≤ 65535)
+    → unread high n scores p i ≤ 65535
 unfolding unread
 unread-most true n scores p i small = small (i * n + p - 1)
 unread-most false n scores p i small = omega arith
 
-read-most : (high : Bool) (n : ℕ) (scores work : List ℕ) (d p i : ℕ) → ((j : ℕ) → getD scores j 0 ≤ 65535) → readAt n scores work d p (unread high n scores p) i ≤ 65535
+read-most : (high : Bool) (n : ℕ) (scores work : List ℕ) (d p i : ℕ) → ((j : ℕ) → getD scores j 0 ≤ 65535)
+    → readAt n scores work d p (unread high n scores p) i ≤ 65535
 unfolding readAt
 read-most high n scores work d p i small =
     by-cases (leb (getD work (i * n + d) 0) p)
     (λ (y : leb (getD work (i * n + d) 0) p ≡ true). rw y (small (i * n + getD work (i * n + d) 0 - 1)))
     (λ (z : leb (getD work (i * n + d) 0) p ≡ false). rw z (unread-most high n scores p i small))
 
-read-rises : (n : ℕ) (scores work : List ℕ) (d p i : ℕ) → readAt n scores work d p (unread false n scores p) i ≤ readAt n scores work d p (unread true n scores p) i
+read-rises : (n : ℕ) (scores work : List ℕ) (d p i : ℕ)
+    → readAt n scores work d p (unread false n scores p) i ≤ readAt n scores work d p (unread true n scores p) i
 unfolding readAt unread
 read-rises n scores work d p i =
     by-cases (leb (getD work (i * n + d) 0) p)
@@ -114,7 +117,8 @@ module _ {v : View} {p : ℕ} (w : Legible v p) where
         passing-none (λ d. ltb 1073741824 (getD marks d 0)) (v .n)
         (λ d hd. rw (noted .marks-are d hd) (le-ltb 1073741824 (markOf v p d) (mark-most d)))
 
-    pub blocks-not : (bar d : ℕ) → d < v .n → (ltb bar (boundOf v true p d) && leb (getD marks d 0) bar) ≡ not (leb (boundOf v true p d) bar || (metOf v p d && leb bar (boundOf v false p d)))
+    pub blocks-not : (bar d : ℕ) → d < v .n
+        → (ltb bar (boundOf v true p d) && leb (getD marks d 0) bar) ≡ not (leb (boundOf v true p d) bar || (metOf v p d && leb bar (boundOf v false p d)))
     blocks-not bar d hd =
         rw (noted .marks-are d hd, ← (mark-above bar d), ltb-not-leb (boundOf v true p d) bar, ltb-not-leb (markOf v p d) bar)
         (not-either (leb (boundOf v true p d) bar) (leb (markOf v p d) bar))

@@ -95,7 +95,8 @@ module _ (m n rule : ℕ) (weights items scores work : List ℕ) (w : Readable (
       }
 
   -- a local score, and what stands for one that is not read
-  read-is : (p d i x y : ℕ) → i < m → d < n → x ≡ y → cond (leb (getD work (i * n + d) 0) p) (getD scores (i * n + getD work (i * n + d) 0 - 1) 0) x ≡ readOr s p d i y
+  read-is : (p d i x y : ℕ) → i < m → d < n → x ≡ y
+      → cond (leb (getD work (i * n + d) 0) p) (getD scores (i * n + getD work (i * n + d) 0 - 1) 0) x ≡ readOr s p d i y
   unfolding score
   read-is p d i x y hi hd e =
       let at : i * n + (place s i d + 1) - 1 ≡ i * n + place s i d = omega arith in

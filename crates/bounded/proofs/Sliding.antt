@@ -32,7 +32,8 @@ moved-starts last l =
     let none : last - last ≡ 0 = omega arith in
     rw none (sym (take-append-drop (suc last) l))
 
-pub moved-goes-on : (i last : ℕ) (l : List ℕ) → i < last → last < length l → set (moved (suc i) last l) (suc i) (getD (moved (suc i) last l) i 0) ≡ moved i last l
+pub moved-goes-on : (i last : ℕ) (l : List ℕ) → i < last → last < length l
+    → set (moved (suc i) last l) (suc i) (getD (moved (suc i) last l) i 0) ≡ moved i last l
 unfolding moved
 moved-goes-on i last l h inside =
     let rest = take (last - suc i) (drop (suc i) l) ++ drop (suc last) l in
@@ -42,7 +43,8 @@ moved-goes-on i last l h inside =
     let more : last - i ≡ suc (last - suc i) = omega arith in
     rw (entry, more, drop-cons l i 0 (omega arith)) (set-after l rest (suc i) (getD l i 0) (omega arith))
 
-pub moved-ends : (seat last x : ℕ) (l : List ℕ) → seat ≤ last → last < length l → set (moved seat last l) seat x ≡ slid seat last x l
+pub moved-ends : (seat last x : ℕ) (l : List ℕ) → seat ≤ last → last < length l
+    → set (moved seat last l) seat x ≡ slid seat last x l
 unfolding moved slid
 moved-ends seat last x l h inside = set-after l (take (last - seat) (drop seat l) ++ drop (suc last) l) seat x (omega arith)
 

@@ -33,7 +33,8 @@ halts n k low high met =
     && everyBelow (λ d. among d (held n k low high met) || leb (high d) (low (lastOf 0 (held n k low high met)))) n
 
 -- a list in an order has as many items as entries
-list-passing : {before : ℕ → ℕ → Bool} → Ordering before → (n : ℕ) (l : List ℕ) → Sorted before l → ((d : ℕ) → among d l ≡ true → d < n) → passing (λ x. among x l) n ≡ length l
+list-passing : {before : ℕ → ℕ → Bool} → Ordering before → (n : ℕ) (l : List ℕ) → Sorted before l
+    → ((d : ℕ) → among d l ≡ true → d < n) → passing (λ x. among x l) n ≡ length l
 unfolding among
 list-passing o n [] h small = passing-none (λ x. among x []) n (λ d _. refl)
 list-passing {before} o n (e ∷ l) h small =
@@ -65,7 +66,8 @@ module _ (n k : ℕ) (low high : ℕ → ℕ) (met : ℕ → Bool) (some : 1 ≤
   held-met d y = kept-item (ahead low high) met n k d y .1
 
   -- each of the first k has a low at or above the last one's
-  held-low : length (held n k low high met) ≡ k → (d : ℕ) → among d (held n k low high met) ≡ true → low (lastOf 0 (held n k low high met)) ≤ low d
+  held-low : length (held n k low high met) ≡ k → (d : ℕ) → among d (held n k low high met) ≡ true
+      → low (lastOf 0 (held n k low high met)) ≤ low d
   unfolding held
   held-low full d y =
       ⊎-elim
@@ -130,7 +132,8 @@ module _ (n k : ℕ) (low high : ℕ → ℕ) (met : ℕ → Bool) (some : 1 ≤
     full = bar-full bar (b .reached)
 
     -- a met item outside has all of the first k ahead of it
-    outside-behind : (d e : ℕ) → d < n → met d ≡ true → among d (held n k low high met) ≡ false → among e (held n k low high met) ≡ true → ahead low high e d ≡ true
+    outside-behind : (d e : ℕ) → d < n → met d ≡ true → among d (held n k low high met) ≡ false
+        → among e (held n k low high met) ≡ true → ahead low high e d ≡ true
     unfolding held
     outside-behind d e hd y out kept =
         let o = ahead-ordering low high in
@@ -147,7 +150,8 @@ module _ (n k : ℕ) (low high : ℕ → ℕ) (met : ℕ → Bool) (some : 1 ≤
     above-too d e reach above he (by-high x l) = omega arith
     above-too d e reach above he (by-item x y l) = omega arith
 
-    outside-low : (d : ℕ) → d < n → among d (held n k low high met) ≡ false → high d ≤ low (lastOf 0 (held n k low high met))
+    outside-low : (d : ℕ) → d < n → among d (held n k low high met) ≡ false
+        → high d ≤ low (lastOf 0 (held n k low high met))
     outside-low d hd out =
         let l = held n k low high met in
         by-cases (leb (high d) (low (lastOf 0 l)))
@@ -242,7 +246,8 @@ module _ (n k : ℕ) (low high : ℕ → ℕ) (met : ℕ → Bool) (some : 1 ≤
       (le-leb (passing (λ d. ltb bar (high d)) n) k (b .few-above))
 
   -- the bar is the k-th low: no higher one is reached by k lows
-  pub parts-halts : ((d : ℕ) → d < n → low d ≤ high d) → passing (λ d. met d && leb (suc bar) (low d)) n < k → parts n k low high met bar ≡ halts n k low high met
+  pub parts-halts : ((d : ℕ) → d < n → low d ≤ high d) → passing (λ d. met d && leb (suc bar) (low d)) n < k
+      → parts n k low high met bar ≡ halts n k low high met
   parts-halts low-most not-next =
       by-cases (parts n k low high met bar)
       (λ (y : parts n k low high met bar ≡ true). y ∙ sym (parted-halts n k low high met some low-most bar (parts-parted y)))

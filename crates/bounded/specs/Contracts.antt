@@ -77,7 +77,8 @@ aheadOf d low high e low′ high′ = ltb low′ low || (eqb low low′ && (ltb 
 -- Item d belongs at r: before each that follows, and not before the one in front
 pub record Seated (d low high filled : ℕ) (picks lows highs : List ℕ) (r : ℕ) : Type 0 where
   pub seat-most : r ≤ filled
-  pub before-rest : (j : ℕ) → r ≤ j → j < filled → aheadOf d low high (getD picks j 0) (getD lows j 0) (getD highs j 0) ≡ true
+  pub before-rest : (j : ℕ) → r ≤ j → j < filled
+      → aheadOf d low high (getD picks j 0) (getD lows j 0) (getD highs j 0) ≡ true
   pub behind-front : (j : ℕ) → suc j ≡ r → aheadOf d low high (getD picks j 0) (getD lows j 0) (getD highs j 0) ≡ false
 
 -- x at `seat`, what stood from there up to `last` one place on, and the rest as it was

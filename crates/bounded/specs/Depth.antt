@@ -79,7 +79,8 @@ unfolding tally
 tally-deep s p = table-same (times (rowsNRA s p)) (λ i q. once (ltb q p)) (s .n) (s .m) (λ i q hi _. rows-times s p i q hi)
 
 -- ---- what is read
-pub read-deep : (s : Poses) (p d i x : ℕ) → i < s .m → readOr s p d i x ≡ cond (ltb (place s i d) p) (score s i (place s i d)) x
+pub read-deep : (s : Poses) (p d i x : ℕ) → i < s .m
+    → readOr s p d i x ≡ cond (ltb (place s i d) p) (score s i (place s i d)) x
 unfolding readOr
 read-deep s p d i x h = rw (rows-visited s p i (place s i d) h)
 

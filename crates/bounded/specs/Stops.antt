@@ -27,7 +27,8 @@ module _ (s : Poses) (q : Query) (k : ℕ) where
   unfolding kept order NRA held
   kept-held p = refl
 
-  pub stops-halts : (p : ℕ) → stops s k (NRA s q) p ≡ halts (s .n) k (lowNRA s q p) (highNRA s q p) (met s (rowsNRA s p))
+  pub stops-halts : (p : ℕ)
+      → stops s k (NRA s q) p ≡ halts (s .n) k (lowNRA s q p) (highNRA s q p) (met s (rowsNRA s p))
   unfolding stops kept order NRA halts held
   stops-halts p = refl
 
@@ -43,12 +44,14 @@ module _ (s : Poses) (q : Query) (k : ℕ) where
         (sym (stops-halts p) ∙ y)
 
     -- the test fails after one row less, and so after every earlier one
-    none-earlier : (r : ℕ) → r ≤ s .n → ((p : ℕ) → suc p ≡ r → 1 ≤ p → stops s k (NRA s q) p ≡ false) → (p : ℕ) → 1 ≤ p → p < r → stops s k (NRA s q) p ≡ true → ⊥
+    none-earlier : (r : ℕ) → r ≤ s .n → ((p : ℕ) → suc p ≡ r → 1 ≤ p → stops s k (NRA s q) p ≡ false) → (p : ℕ) → 1 ≤ p
+        → p < r → stops s k (NRA s q) p ≡ true → ⊥
     none-earlier r most fails p least early y =
         let next : suc (r - 1) ≡ r = omega arith in
         true≢false (sym (stops-stay p (r - 1) least (omega arith) (omega arith) y) ∙ fails (r - 1) next (omega arith))
 
-    pub rows-are : (r : ℕ) → 1 ≤ r → r ≤ s .n → (r < s .n → stops s k (NRA s q) r ≡ true) → ((p : ℕ) → suc p ≡ r → 1 ≤ p → stops s k (NRA s q) p ≡ false) → rows s k (NRA s q) ≡ r
+    pub rows-are : (r : ℕ) → 1 ≤ r → r ≤ s .n → (r < s .n → stops s k (NRA s q) r ≡ true)
+        → ((p : ℕ) → suc p ≡ r → 1 ≤ p → stops s k (NRA s q) p ≡ false) → rows s k (NRA s q) ≡ r
     unfolding rows
     rows-are r least most holds fails =
         let t = stops s k (NRA s q) in
@@ -66,7 +69,8 @@ module _ (s : Poses) (q : Query) (k : ℕ) where
         absurd (true≢false (sym (holds (omega arith)) ∙ first-skips t (s .n - 1) 1 r least late)))
         (λ w. omega (arith, ltb-false x r z, ltb-false r x w)))
 
-    pub kept-full : (r : ℕ) → k ≤ s .n → r ≤ s .n → (r < s .n → stops s k (NRA s q) r ≡ true) → length (kept s k (NRA s q) r) ≡ k
+    pub kept-full : (r : ℕ) → k ≤ s .n → r ≤ s .n → (r < s .n → stops s k (NRA s q) r ≡ true)
+        → length (kept s k (NRA s q) r) ≡ k
     unfolding kept order NRA stops
     kept-full r k-most most holds =
         let before = ahead (lowNRA s q r) (highNRA s q r) in

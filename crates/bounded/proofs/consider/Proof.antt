@@ -67,4 +67,16 @@ returns-2 c =
     }
 
 pub consider-spec : {M : Type 1} → statement M
-consider-spec = tie.close (tie.spec seen-requires bound-requires bound-requires-2 narrow-requires keep-requires same-length same-length-2 same-length-3 returns returns-2)
+consider-spec =
+    tie.close
+    (tie.spec
+    seen-requires
+    bound-requires
+    bound-requires-2
+    narrow-requires
+    keep-requires
+    same-length
+    same-length-2
+    same-length-3
+    returns
+    returns-2)

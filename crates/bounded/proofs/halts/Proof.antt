@@ -65,4 +65,16 @@ returns-2 c =
     (at-start .pre .1) (after-highest-bar .highest-bar .ensures)
 
 pub halts-spec : {M : Type 1} → statement M
-halts-spec = tie.close (tie.spec slice-aggregate-note-marks note-marks-requires slice-aggregate-reach reach-requires returns slice-aggregate-highest-bar highest-bar-requires slice-aggregate-parted parted-requires returns-2)
+halts-spec =
+    tie.close
+    (tie.spec
+    slice-aggregate-note-marks
+    note-marks-requires
+    slice-aggregate-reach
+    reach-requires
+    returns
+    slice-aggregate-highest-bar
+    highest-bar-requires
+    slice-aggregate-parted
+    parted-requires
+    returns-2)

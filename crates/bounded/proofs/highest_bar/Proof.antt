@@ -74,4 +74,18 @@ returns c =
     record { reached = inv .2; not-next = rw next at (inv .3) }
 
 pub highest-bar-spec : {M : Type 1} → statement M
-highest-bar-spec = tie.close (tie.spec Inv-loop μ-loop loop-holds add-loop sub-middle add-middle reach-requires loop-less loop-again loop-less-2 loop-again-2 returns)
+highest-bar-spec =
+    tie.close
+    (tie.spec
+    Inv-loop
+    μ-loop
+    loop-holds
+    add-loop
+    sub-middle
+    add-middle
+    reach-requires
+    loop-less
+    loop-again
+    loop-less-2
+    loop-again-2
+    returns)

@@ -84,4 +84,17 @@ returns c =
     rw (at-loop .loop .inv .2, whole) (marked {v = v} (a .marks .now) (at-start .pre .1))
 
 pub note-marks-spec : {M : Type 1} → statement M
-note-marks-spec = tie.close (tie.spec Inv-loop μ-loop loop-holds mark-requires mul-marks slice-write-marks add-d loop-less loop-again same-length returns)
+note-marks-spec =
+    tie.close
+    (tie.spec
+    Inv-loop
+    μ-loop
+    loop-holds
+    mark-requires
+    mul-marks
+    slice-write-marks
+    add-d
+    loop-less
+    loop-again
+    same-length
+    returns)

@@ -142,4 +142,20 @@ returns-2 c =
     rw (all, count-is)
 
 pub parted-spec : {M : Type 1} → statement M
-parted-spec = tie.close (tie.spec Inv-loop μ-loop loop-holds bound-requires mul-blocks shared-slice-read-blocks blocks-requires returns above-requires add-count add-d loop-less loop-again returns-2)
+parted-spec =
+    tie.close
+    (tie.spec
+    Inv-loop
+    μ-loop
+    loop-holds
+    bound-requires
+    mul-blocks
+    shared-slice-read-blocks
+    blocks-requires
+    returns
+    above-requires
+    add-count
+    add-d
+    loop-less
+    loop-again
+    returns-2)

@@ -98,4 +98,17 @@ returns c =
     rw whole at (at-loop .loop .inv .4)
 
 pub rank-spec : {M : Type 1} → statement M
-rank-spec = tie.close (tie.spec Inv-loop μ-loop loop-holds consider-requires add-d loop-less loop-again same-length same-length-2 same-length-3 returns)
+rank-spec =
+    tie.close
+    (tie.spec
+    Inv-loop
+    μ-loop
+    loop-holds
+    consider-requires
+    add-d
+    loop-less
+    loop-again
+    same-length
+    same-length-2
+    same-length-3
+    returns)

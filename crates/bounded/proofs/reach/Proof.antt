@@ -83,4 +83,17 @@ returns c =
     rw whole at (at-loop .loop .inv .1)
 
 pub reach-spec : {M : Type 1} → statement M
-reach-spec = tie.close (tie.spec Inv-loop μ-loop loop-holds mul-above shared-slice-read-above above-requires add-count add-d loop-less loop-again returns)
+reach-spec =
+    tie.close
+    (tie.spec
+    Inv-loop
+    μ-loop
+    loop-holds
+    mul-above
+    shared-slice-read-above
+    above-requires
+    add-count
+    add-d
+    loop-less
+    loop-again
+    returns)

@@ -60,4 +60,15 @@ returns c =
     (after-stopping-row .stopping-row .ensures) (after-rank .rank .ensures) (after-fill-tally .fill-tally .ensures)
 
 pub run-nra-spec : {M : Type 1} → statement M
-run-nra-spec = tie.close (tie.spec stopping-row-requires rank-requires fill-tally-requires cast-result same-length same-length-2 same-length-3 same-length-4 returns)
+run-nra-spec =
+    tie.close
+    (tie.spec
+    stopping-row-requires
+    rank-requires
+    fill-tally-requires
+    cast-result
+    same-length
+    same-length-2
+    same-length-3
+    same-length-4
+    returns)

@@ -26,7 +26,8 @@ unfolding someBelow
 loop-holds c = (omega arith, refl)
 
 -- list i's row lies within the work slice
-here : (c : tie.In-loop Inv-loop μ-loop) → c .before .loop .i * c .before .before .before .args .n + c .before .before .before .args .n ≤ length (c .before .before .before .args .work .now)
+here : (c : tie.In-loop Inv-loop μ-loop)
+    → c .before .loop .i * c .before .before .before .args .n + c .before .before .before .args .n ≤ length (c .before .before .before .args .work .now)
 here c =
     let at-start = c .before .before .before in
     omega (arith, table-room (c .before .loop .i) (at-start .args .m) (at-start .args .n) (c .loop-test .taken), at-start .pre .3)
@@ -101,4 +102,19 @@ returns-2 c =
     sym (rw whole at (at-loop .loop .inv .1))
 
 pub seen-spec : {M : Type 1} → statement M
-seen-spec = tie.close (tie.spec Inv-loop μ-loop loop-holds mul-base add-at mul-wide shared-slice-read-wide wide-requires returns add-i loop-less loop-again returns-2)
+seen-spec =
+    tie.close
+    (tie.spec
+    Inv-loop
+    μ-loop
+    loop-holds
+    mul-base
+    add-at
+    mul-wide
+    shared-slice-read-wide
+    wide-requires
+    returns
+    add-i
+    loop-less
+    loop-again
+    returns-2)

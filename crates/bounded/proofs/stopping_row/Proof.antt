@@ -85,4 +85,17 @@ returns c =
     narrowing-ends v (a .k) (at-loop .loop .inv) (c .loop-test .left)
 
 pub stopping-row-spec : {M : Type 1} → statement M
-stopping-row-spec = tie.close (tie.spec Inv-loop μ-loop loop-holds probe-requires halts-requires loop-less loop-again add-from loop-less-2 loop-again-2 returns)
+stopping-row-spec =
+    tie.close
+    (tie.spec
+    Inv-loop
+    μ-loop
+    loop-holds
+    probe-requires
+    halts-requires
+    loop-less
+    loop-again
+    add-from
+    loop-less-2
+    loop-again-2
+    returns)

@@ -70,4 +70,20 @@ returns-2 c =
     }
 
 pub keep-spec : {M : Type 1} → statement M
-keep-spec = tie.close (tie.spec seat-requires same-length same-length-2 same-length-3 returns last-place-requires slide-items-requires slide-bounds-requires slide-bounds-requires-2 add-result same-length-4 same-length-5 same-length-6 returns-2)
+keep-spec =
+    tie.close
+    (tie.spec
+    seat-requires
+    same-length
+    same-length-2
+    same-length-3
+    returns
+    last-place-requires
+    slide-items-requires
+    slide-bounds-requires
+    slide-bounds-requires-2
+    add-result
+    same-length-4
+    same-length-5
+    same-length-6
+    returns-2)

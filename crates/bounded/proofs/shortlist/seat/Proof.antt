@@ -110,4 +110,21 @@ returns-2 c =
     }
 
 pub seat-spec : {M : Type 1} → statement M
-seat-spec = tie.close (tie.spec Inv-loop μ-loop loop-holds sub-at mul-ahead shared-slice-read-ahead mul-ahead-2 shared-slice-read-ahead-2 mul-ahead-3 shared-slice-read-ahead-3 ahead-requires loop-less loop-again returns returns-2)
+seat-spec =
+    tie.close
+    (tie.spec
+    Inv-loop
+    μ-loop
+    loop-holds
+    sub-at
+    mul-ahead
+    shared-slice-read-ahead
+    mul-ahead-2
+    shared-slice-read-ahead-2
+    mul-ahead-3
+    shared-slice-read-ahead-3
+    ahead-requires
+    loop-less
+    loop-again
+    returns
+    returns-2)

@@ -98,4 +98,20 @@ returns c =
     rw (at-loop .loop .inv .2, there) (moved-ends (a .seat) (a .last) (a .x) (a .list .now) (at-start .pre .0) (at-start .pre .1))
 
 pub slide-bounds-spec : {M : Type 1} → statement M
-slide-bounds-spec = tie.close (tie.spec Inv-loop μ-loop loop-holds sub-from mul-list slice-read-list mul-list-2 slice-write-list loop-less loop-again mul-list-3 slice-write-list-2 same-length returns)
+slide-bounds-spec =
+    tie.close
+    (tie.spec
+    Inv-loop
+    μ-loop
+    loop-holds
+    sub-from
+    mul-list
+    slice-read-list
+    mul-list-2
+    slice-write-list
+    loop-less
+    loop-again
+    mul-list-3
+    slice-write-list-2
+    same-length
+    returns)

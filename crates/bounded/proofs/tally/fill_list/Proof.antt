@@ -72,4 +72,16 @@ returns c =
     rw (at-loop .loop .inv .2, whole) (fill-whole (λ q. once (ltb q (a .p))) (a .row .now))
 
 pub fill-list-spec : {M : Type 1} → statement M
-fill-list-spec = tie.close (tie.spec Inv-loop μ-loop loop-holds visits-requires slice-write-row add-q loop-less loop-again same-length returns)
+fill-list-spec =
+    tie.close
+    (tie.spec
+    Inv-loop
+    μ-loop
+    loop-holds
+    visits-requires
+    slice-write-row
+    add-q
+    loop-less
+    loop-again
+    same-length
+    returns)

@@ -27,7 +27,8 @@ unfolding over table
 loop-holds c = (omega arith, refl, refl)
 
 -- what is known in a turn: list i's part lies within the tally
-here : (c : tie.In-loop Inv-loop μ-loop) → c .before .loop .i * c .before .before .before .args .n + c .before .before .before .args .n ≤ length (c .before .loop .tally)
+here : (c : tie.In-loop Inv-loop μ-loop)
+    → c .before .loop .i * c .before .before .before .args .n + c .before .before .before .args .n ≤ length (c .before .loop .tally)
 here c =
     let at-start = c .before .before .before in
     let room = table-room (c .before .loop .i) (at-start .args .m) (at-start .args .n) (c .loop-test .taken) in
@@ -102,4 +103,20 @@ returns c =
     rw whole at (at-loop .loop .inv .2)
 
 pub fill-tally-spec : {M : Type 1} → statement M
-fill-tally-spec = tie.close (tie.spec Inv-loop μ-loop loop-holds mul-from add-to sub-fill-list part-fill-list-start part-fill-list-end fill-list-requires add-i loop-less loop-again same-length returns)
+fill-tally-spec =
+    tie.close
+    (tie.spec
+    Inv-loop
+    μ-loop
+    loop-holds
+    mul-from
+    add-to
+    sub-fill-list
+    part-fill-list-start
+    part-fill-list-end
+    fill-list-requires
+    add-i
+    loop-less
+    loop-again
+    same-length
+    returns)
