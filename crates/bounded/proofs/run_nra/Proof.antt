@@ -1,0 +1,74 @@
+-- `bounded::run_nra` meets its contract: the row that is found is the row of the definition (`rows-are`), and the shortlist and the
+-- tally are those of that row.
+-- Assumes nothing.
+use borrow.Author.Needs.{needs}
+use native.Mathlib.Omega.{arith}
+use Rattle.bounded.proofs.Reading.{legible, finishes}
+use Rattle.bounded.proofs.run_nra.Statement.{statement}
+use Rattle.bounded.proofs.run_nra.Tie as tie
+
+stopping-row-requires : tie.Need-stopping-row-requires
+stopping-row-requires c κs =
+    let at-start = c .before .before .before .before .before .before .before in
+    let a = at-start .args in
+    let sizes = at-start .pre .0 .lists-valid .size in
+    (legible (a .m) (a .n) (a .rule) (a .weights) (a .items .now) (a .scores .now) (a .work .now) (at-start .pre .0) (a .n) (sizes .n-least) (omega arith), at-start .pre .1 .k-least)
+
+rank-requires : tie.Need-rank-requires
+rank-requires c κs =
+    let at-start = c .before .before .before .before .before .before .before .before .before .before .before in
+    let after-stopping-row = c .before .before .before in
+    let a = at-start .args in
+    let room = at-start .pre .1 in
+    let found = after-stopping-row .stopping-row .ensures in (
+      legible (a .m) (a .n) (a .rule) (a .weights) (a .items .now) (a .scores .now) (a .work .now) (at-start .pre .0) (after-stopping-row .stopping-row .result) (found .row-least) (found .row-most),
+      record { k-least = room .k-least; picks-long = room .picks-long; lows-long = room .lows-long; highs-long = room .highs-long },
+    )
+
+fill-tally-requires : tie.Need-fill-tally-requires
+fill-tally-requires c κs =
+    let at-start = c .before .before .before .before .before .before .before .before .before .before .before .before .before .before .before .before .before .before .before in
+    let sizes = at-start .pre .0 .lists-valid .size in
+    (sizes .m-most, sizes .n-most, at-start .pre .1 .tally-long)
+
+cast-result : tie.Need-cast-result
+cast-result c =
+    let after-stopping-row = c .before .before .before .before .before .before .before .before .before .before .before .before .before .before in
+    let at-start = c .before .before .before .before .before .before .before .before .before .before .before .before .before .before .before .before .before .before .before .before .before .before in
+    omega (arith, after-stopping-row .stopping-row .ensures .row-most, at-start .pre .0 .lists-valid .size .n-most)
+
+same-length : tie.Need-same-length
+same-length c = search needs
+
+same-length-2 : tie.Need-same-length-2
+same-length-2 c = search needs
+
+same-length-3 : tie.Need-same-length-3
+same-length-3 c = search needs
+
+same-length-4 : tie.Need-same-length-4
+same-length-4 c = search needs
+
+returns : tie.Need-returns
+returns c =
+    let at-start = c .before .before .before .before .before .before .before .before .before .before .before .before .before .before .before .before .before .before .before .before .before .before in
+    let after-stopping-row = c .before .before .before .before .before .before .before .before .before .before .before .before .before .before in
+    let after-rank = c .before .before .before .before .before .before .before .before .before .before in
+    let after-fill-tally = c .before .before in
+    let a = at-start .args in
+    finishes (a .m) (a .n) (a .rule) (a .weights) (a .items .now) (a .scores .now) (a .work .now) (at-start .pre .0) (at-start .pre .1)
+    (after-stopping-row .stopping-row .ensures) (after-rank .rank .ensures) (after-fill-tally .fill-tally .ensures)
+
+pub run-nra-spec : {M : Type 1} → statement M
+run-nra-spec =
+    tie.close
+    (tie.spec
+    stopping-row-requires
+    rank-requires
+    fill-tally-requires
+    cast-result
+    same-length
+    same-length-2
+    same-length-3
+    same-length-4
+    returns)

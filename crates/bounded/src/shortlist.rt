@@ -1,0 +1,116 @@
+// The shortlist in its three slices: items, lows and highs, by low falling, then high falling, then item
+// rising.
+ghost use mathlib.Core.Path.{_≡_};
+ghost use Prim.Native.Nat.{_-_, _≤_, _<_, min};
+ghost use lib.ListN.{length};
+ghost use Rattle.bounded.specs.Contracts.{aheadOf, Seated, slid, Keeps, Inserted};
+
+// Item d with its low and high stands before item e with its own.
+fn ahead(d: u16, low: u32, high: u32, e: u16, lo: u32, hi: u32) -> bool
+    ensures { λ r. ⌜ r ≡ aheadOf d low high e lo hi ⌝ }
+{
+    if lo < low {
+        return true;
+    }
+    if low < lo {
+        return false;
+    }
+    if hi < high {
+        return true;
+    }
+    if high < hi {
+        return false;
+    }
+    d < e
+}
+
+// Where item d belongs among the first `filled`: behind the last that it does not stand before. Most
+// items belong at the end, so the walk starts there.
+fn seat(
+    d: u16,
+    low: u32,
+    high: u32,
+    filled: usize,
+    picks: &[u16],
+    lows: &[u32],
+    highs: &[u32],
+) -> usize
+    requires { ⌜ (filled ≤ length (now picks)) × (filled ≤ length (now lows)) × (filled ≤ length (now highs)) ⌝ }
+    ensures { λ r. ⌜ Seated d low high filled (now (picks .entry)) (now (lows .entry)) (now (highs .entry)) r ⌝ }
+{
+    let mut j = filled;
+    while 0 < j {
+        let at = j - 1;
+        if ahead(d, low, high, picks[at], lows[at], highs[at]) {
+            j = at;
+        } else {
+            return j;
+        }
+    }
+    j
+}
+
+// Puts x at `seat`, after moving what stands from there up to `last` one place on; what stood at `last`
+// goes.
+fn slide_items(list: &mut [u16], seat: usize, last: usize, x: u16)
+    requires { ⌜ (seat ≤ last) × (last < length (now list)) ⌝ }
+    ensures { λ _. ⌜ now (list .exit) ≡ slid seat last x (now (list .entry)) ⌝ }
+{
+    let mut j = last;
+    while seat < j {
+        let from = j - 1;
+        list[j] = list[from];
+        j = from;
+    }
+    list[j] = x;
+}
+
+// The same for lows and for highs.
+fn slide_bounds(list: &mut [u32], seat: usize, last: usize, x: u32)
+    requires { ⌜ (seat ≤ last) × (last < length (now list)) ⌝ }
+    ensures { λ _. ⌜ now (list .exit) ≡ slid seat last x (now (list .entry)) ⌝ }
+{
+    let mut j = last;
+    while seat < j {
+        let from = j - 1;
+        list[j] = list[from];
+        j = from;
+    }
+    list[j] = x;
+}
+
+// Where the last of at most k places stands once one more item is put among `filled`.
+fn last_place(filled: usize, k: usize) -> usize
+    requires { ⌜ 1 ≤ k ⌝ }
+    ensures { λ r. ⌜ r ≡ min filled (k - 1) ⌝ }
+{
+    if filled < k {
+        return filled;
+    }
+    k - 1
+}
+
+// Item d into the first k, and how many there are then. Seat k means that it is not kept.
+pub fn keep(
+    d: u16,
+    low: u32,
+    high: u32,
+    k: usize,
+    filled: usize,
+    picks: &mut [u16],
+    lows: &mut [u32],
+    highs: &mut [u32],
+) -> usize
+    requires { ⌜ Keeps k filled (now picks) (now lows) (now highs) ⌝ }
+    ensures { λ r. ⌜ Inserted d low high k filled (now (picks .entry)) (now (lows .entry)) (now (highs .entry)) r (now (picks .exit)) (now (lows .exit)) (now (highs .exit)) ⌝ }
+{
+    let at = seat(d, low, high, filled, picks, lows, highs);
+    if at == k {
+        return filled;
+    }
+    let last = last_place(filled, k);
+    slide_items(picks, at, last, d);
+    slide_bounds(lows, at, last, low);
+    slide_bounds(highs, at, last, high);
+    last + 1
+}
