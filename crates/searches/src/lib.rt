@@ -7,13 +7,13 @@ use meeting::Done;
 use meeting::Random;
 use meeting::Sorted;
 ghost use mathlib.Core.Path.{_≡_};
-ghost use Prim.Native.Nat.{ℕ, _+_, _≤_};
+ghost use Prim.Native.Nat.{ℕ, _≤_};
 ghost use lib.ListN.{length, take};
 ghost use Rattle.model.specs.Words.{over};
-ghost use Rattle.model.specs.Searches.{TA, BPA, BPA2};
+ghost use Rattle.model.specs.Searches.{TA, BPA, BPA2, NRA};
 ghost use Rattle.scored.specs.Run.{searchBy};
 ghost use Rattle.searches.specs.Contracts.{lentWith};
-ghost use Rattle.searches.specs.Answered.{RefusedBy, Tells, Searched};
+ghost use Rattle.searches.specs.Answered.{RefusedBy, Tells, OnlySorted, Searched};
 
 // What a search gives back beside the slices: 0 or the number of a refusal with its list and position, the rows
 // or rounds, and the accesses by kind.
@@ -66,6 +66,20 @@ fn repeat_lows(k: usize, lows: &[u32], highs: &mut [u32])
     while i < k {
         highs[i] = lows[i];
         i += 1;
+    }
+}
+
+// NRA makes one sorted access of each list in each row, and no other.
+fn only_sorted(m: usize, rows: u32) -> Done
+    requires { ⌜ (m ≤ 8) × (rows ≤ 1024) ⌝ }
+    ensures { λ r. ⌜ OnlySorted m rows r ⌝ }
+{
+    let lists = m as u32;
+    Done {
+        rows,
+        sorted: Sorted(rows * lists),
+        direct: Direct(0),
+        random: Random(0),
     }
 }
 
@@ -224,4 +238,56 @@ pub fn bpa2(
         tally,
         work,
     )
+}
+
+// NRA: sorted accesses alone, and bounds of each item's score.
+pub fn nra(
+    m: usize,
+    n: usize,
+    items: &[u16],
+    scores: &[u16],
+    rule: u8,
+    k: usize,
+    weights: &[u8],
+    picks: &mut [u16],
+    lows: &mut [u32],
+    highs: &mut [u32],
+    tally: &mut [u8],
+    work: &mut [u16],
+) -> Answer
+    ensures { λ r. ⌜ Searched NRA (lentWith m n rule k (now (weights .entry)) (now (items .entry)) (now (scores .entry)) (now (picks .entry)) (now (lows .entry)) (now (highs .entry)) (now (tally .entry)) (now (work .entry))) r (now (picks .exit)) (now (lows .exit)) (now (highs .exit)) (now (tally .exit)) (now (work .exit)) ⌝ }
+{
+    let tested = admission::admit(
+        m,
+        n,
+        rule,
+        k,
+        weights,
+        items,
+        scores,
+        picks.len(),
+        lows.len(),
+        highs.len(),
+        tally.len(),
+        work,
+    );
+    if tested.number != 0 {
+        return refused(tested);
+    }
+    let numbers = admission::decode(m, weights);
+    let rows = bounded::run_nra(
+        m,
+        n,
+        items,
+        scores,
+        rule,
+        numbers,
+        k,
+        picks,
+        lows,
+        highs,
+        tally,
+        work,
+    );
+    found(only_sorted(m, rows))
 }

@@ -7,7 +7,7 @@ use borrow.Author.Needs.{needs}
 use lib.ListN.{length, getD}
 use Rattle.model.specs.Refusals.{posesOf}
 use Rattle.searches.specs.Contracts.{lentWith}
-use Rattle.searches.proofs.Answering.{refused-answer, Passed, passed, found-answer}
+use Rattle.searches.proofs.Answering.{refused-answer, passed, readable, scored-answer}
 use Rattle.searches.proofs.by_score.Statement.{statement}
 use Rattle.searches.proofs.by_score.Tie as tie
 
@@ -47,13 +47,7 @@ run-requires c κs =
     let after-shared-slice-known2 = c .before .before .before .before .before .before .before .before .before .before .before .before .before .before .before .before .before in
     let through = passed (after-admit .admit .ensures) (else1 .if1 .left) in
     record {
-      readable =
-          record {
-            lists-valid = through .lists-valid;
-            work-placed = through .work-placed;
-            weights-small = λ i. rw (after-decode .decode .ensures .weight i) (through .weights-small i);
-            scores-small = λ j. omega (arith, after-shared-slice-known2 .shared-slice-known2 .given j);
-          };
+      readable = readable (after-decode .decode .result) through (after-decode .decode .ensures) (λ j. omega (arith, after-shared-slice-known2 .shared-slice-known2 .given j));
       keeps = record { k-least = through .k-least; filled-most = omega arith; picks-long = through .picks-long; lows-long = through .lows-long };
       tally-long = through .tally-long;
     }
@@ -98,7 +92,7 @@ returns-2 c =
     let args = at-start .args in
     let tests = after-admit .admit .ensures in
     let through = passed tests (else1 .if1 .left) in
-    found-answer (args .which) (lentWith (args .m) (args .n) (args .rule) (args .k) (args .weights .now) (args .items .now) (args .scores .now) (args .picks .now) (args .lows .now) (args .highs .now) (args .tally .now) (args .work .now)) (after-admit .admit .result) (after-decode .decode .result) (after-run .run .result) _ _ _ _ _ _
+    scored-answer (args .which) (lentWith (args .m) (args .n) (args .rule) (args .k) (args .weights .now) (args .items .now) (args .scores .now) (args .picks .now) (args .lows .now) (args .highs .now) (args .tally .now) (args .work .now)) (after-admit .admit .result) (after-decode .decode .result) (after-run .run .result) _ _ _ _ _ _
     (at-start .pre) (through .lists-valid) (through .k-least) (through .k-most) (else1 .if1 .left)
     (tests .answers (args .picks .now) (args .lows .now) (args .highs .now) (args .tally .now) refl refl refl refl)
     (after-decode .decode .ensures) (after-run .run .ensures) (after-repeat-lows .repeat-lows .ensures) (c .found .ensures)
