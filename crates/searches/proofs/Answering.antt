@@ -10,21 +10,17 @@
 --     searched-as        a search by its number is the search by its name
 -- Assumes nothing.
 use mathlib.Core.Path.{_≡_, refl, sym, ap, subst, _∙_}
-use mathlib.Core.Bool.{true, false, not}
 use mathlib.Core.List.{List, [], _∷_, map}
 use Prim.Native.Nat.{ℕ, zero, suc, _+_, _*_, _≤_, _<_}
 use native.Mathlib.Omega.{arith}
-use lib.Dec.{eqb, ltb}
 use lib.ListN.{length, getD, take, drop, length-map, List·getD-eq-default}
 use lib.Seq.{take-append-seam}
-use borrow.Author.Tests.{ltb-true, ltb-false, eqb-true, eqb-false, not-false}
 use Rattle.model.specs.Words.{over, someBelow}
 use Rattle.model.specs.Given.{Poses, Query, total}
 use Rattle.model.specs.Accesses.{sorted, direct, random, made, tally}
 use Rattle.model.specs.Searches.{Search, kept, rows, byScore, NRA}
 use Rattle.model.specs.Refusals.{Verdict, accepted, refused, Lent, posesOf, queryOf, pair, weightOf, wrongK, wrongWeights, inLists, searchShape, searchVerdict}
 use Rattle.model.specs.Answers.{Told, told, Place, Found, found, foundAfter, searchOf, answering, answer, written, workAfter, slices, slicesWith}
-use Rattle.laws.specs.Tests.{by-cases, or-no, some-not}
 use Rattle.laws.specs.Verdicts.{by-verdict, told-zero}
 use Rattle.laws.specs.Accepted.{Valid, Placed}
 use Rattle.lists.specs.declared.Checked.{Checked}
@@ -37,7 +33,7 @@ use Rattle.bounded.specs.Contracts.{Finished}
 use Rattle.searches.specs.declared.Answer.{Answer}
 use Rattle.searches.specs.Contracts.{lentWith, Decoded, shapeOf, Admitted}
 use Rattle.searches.specs.Answered.{RefusedBy, Tells, Did, OnlySorted, Searched}
-use Rattle.searches.proofs.Tested.{weight-past, numbered-search, Shape, shape-told}
+use Rattle.searches.specs.Shapes.{weights-long, weight-small, k-passes, numbered-search, shape-told}
 
 pub refused-answer : (r : Poses → Query → Search) (l : Lent) (c : Checked) (a : Answer) (work : List ℕ) → RefusedBy c a → (c .number ≡ 0 → ⊥) → valueOf c ≡ told (searchVerdict l) → work ≡ workAfter (searchShape l) (posesOf l) (l .work) → Searched r l a (l .picks) (l .lows) (l .highs) (l .tally) work
 unfolding answer answering slices slicesWith written
@@ -61,21 +57,6 @@ refused-answer r l c a work t bad says left =
       work-is = left;
     })
 
--- what the weights' test lets pass: they are 2m bytes, and no weight is above 1,000. Past the last there is none
-weights-long : (m : ℕ) (bytes : List ℕ) → wrongWeights m bytes ≡ false → length bytes ≡ 2 * m
-unfolding wrongWeights
-weights-long m bytes right =
-    let both = or-no (not (eqb (length bytes) (2 * m))) (someBelow (λ i. ltb 1000 (weightOf bytes i)) m) right in
-    eqb-true (length bytes) (2 * m) (not-false (eqb (length bytes) (2 * m)) (both .0))
-
-weight-small : (m : ℕ) (bytes : List ℕ) → wrongWeights m bytes ≡ false → (i : ℕ) → weightOf bytes i ≤ 1000
-unfolding wrongWeights
-weight-small m bytes right i =
-    let both = or-no (not (eqb (length bytes) (2 * m))) (someBelow (λ i. ltb 1000 (weightOf bytes i)) m) right in
-    by-cases (ltb i m)
-    (λ (y : ltb i m ≡ true). ltb-false 1000 (weightOf bytes i) (some-not (λ i. ltb 1000 (weightOf bytes i)) m i (both .1) (ltb-true i m y)))
-    (λ (z : ltb i m ≡ false). omega (arith, weight-past bytes m i (weights-long m bytes right) (ltb-false i m z)))
-
 -- the query of the decoded weights is the one lent
 pub same-query : (l : Lent) (numbers : List ℕ) → Decoded (l .weights) numbers → queryWith (l .rule) numbers ≡ queryOf l
 unfolding queryOf
@@ -96,10 +77,6 @@ kept-k (suc zero) s q k h v some most = rw (search-bpa s q) (promised s v q k so
 kept-k (suc (suc zero)) s q k h v some most = rw (search-bpa2 s q) (promised s v q k some most .bpa2 .size)
 kept-k (suc (suc (suc which))) s q k h v some most = absurd (omega (arith, h))
 
-positive : (k : ℕ) → (k ≡ 0 → ⊥) → 1 ≤ k
-positive zero some = absurd (some refl)
-positive (suc k) some = omega arith
-
 -- What the tests of a search let pass, with whatever slices of these lengths
 pub record Passed (m n rule k : ℕ) (weights items scores : List ℕ) (picks lows highs tally : ℕ) (work after : List ℕ) : Type 0 where
   pub lists-valid : Valid (poses m n items scores)
@@ -115,17 +92,15 @@ pub record Passed (m n rule k : ℕ) (weights items scores : List ℕ) (picks lo
   pub shaped : shapeOf m n rule k weights (length items) (length scores) picks lows highs tally (length work) ≡ accepted
 
 pub passed : {m n rule k : ℕ} {weights items scores : List ℕ} {picks lows highs tally : ℕ} {work : List ℕ} {r : Checked} {after : List ℕ} → Admitted m n rule k weights items scores picks lows highs tally work r after → r .number ≡ 0 → Passed m n rule k weights items scores picks lows highs tally work after
-unfolding wrongK
 passed {m} {n} {rule} {k} {weights} {items} {scores} {picks} {lows} {highs} {tally} {work} a none =
     let all = a .shaped none in
     let h = shape-told m n rule k weights (length items) (length scores) picks lows highs tally (length work) all in
-    let ks = or-no (eqb k 0) (ltb n k) (h .k-right) in
-    let some : k ≡ 0 → ⊥ = eqb-false k 0 (ks .0) in
+    let ks = k-passes k n (h .k-right) in
     record {
       lists-valid = a .passes none .lists-valid;
       work-placed = a .passes none .work-placed;
-      k-least = positive k some;
-      k-most = ltb-false n k (ks .1);
+      k-least = ks .0;
+      k-most = ks .1;
       weights-length = weights-long m weights (h .weights-right);
       weights-small = weight-small m weights (h .weights-right);
       picks-long = h .picks-long;

@@ -12,7 +12,7 @@ use lib.Seq.{getD-set-same, getD-set-other}
 use borrow.Author.Tests.{ltb-true, ltb-false}
 use Rattle.model.specs.Refusals.{weightOf}
 use Rattle.laws.specs.Tests.{by-cases, below-suc}
-use Rattle.searches.proofs.Tested.{weight-past}
+use Rattle.searches.specs.Shapes.{weight-past}
 use Rattle.searches.proofs.admission.decode.Statement.{statement}
 use Rattle.searches.proofs.admission.decode.Tie as tie
 
