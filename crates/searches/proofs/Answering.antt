@@ -33,6 +33,7 @@ use Rattle.bounded.specs.Contracts.{Finished}
 use Rattle.searches.specs.declared.Answer.{Answer}
 use Rattle.searches.specs.Contracts.{lentWith, Decoded, shapeOf, Admitted}
 use Rattle.searches.specs.Answered.{RefusedBy, Tells, Did, OnlySorted, Searched}
+use Rattle.searches.specs.Shortlists.{items-of, lows-of, highs-of}
 use Rattle.searches.specs.Shapes.{weights-long, weight-small, k-passes, numbered-search, shape-told}
 
 pub refused-answer : (r : Poses → Query → Search) (l : Lent) (c : Checked) (a : Answer) (work : List ℕ) → RefusedBy c a → (c .number ≡ 0 → ⊥) → valueOf c ≡ told (searchVerdict l) → work ≡ workAfter (searchShape l) (posesOf l) (l .work) → Searched r l a (l .picks) (l .lows) (l .highs) (l .tally) work
@@ -61,14 +62,6 @@ refused-answer r l c a work t bad says left =
 pub same-query : (l : Lent) (numbers : List ℕ) → Decoded (l .weights) numbers → queryWith (l .rule) numbers ≡ queryOf l
 unfolding queryOf
 same-query l numbers d = λ j. record { rule = l .rule; weight = λ i. d .weight i j }
-
-map-map : {A B C : Type 0} (f : A → B) (g : B → C) (l : List A) → map g (map f l) ≡ map (λ x. g (f x)) l
-map-map f g [] = refl
-map-map {C = C} f g (x ∷ l) = ap (λ (k : List C). g (f x) ∷ k) (map-map f g l)
-
-map-id : (l : List ℕ) → map (λ (x : ℕ). x) l ≡ l
-map-id [] = refl
-map-id (x ∷ l) = ap (λ (k : List ℕ). x ∷ k) (map-id l)
 
 -- TA, BPA and BPA2 keep k items when they stop
 pub kept-k : (which : ℕ) (s : Poses) (q : Query) (k : ℕ) → which ≤ 2 → Valid s → 1 ≤ k → k ≤ s .n → length (kept s k (searchBy which s q) (rows s k (searchBy which s q))) ≡ k
@@ -124,10 +117,6 @@ readable numbers through decoded small =
 verdict-none : (l : Lent) (c : Checked) → c .number ≡ 0 → valueOf c ≡ told (searchVerdict l) → searchVerdict l ≡ accepted
 verdict-none l c none says = told-zero (searchVerdict l) (numbered-search l) (sym (ap (λ (x : Told). x .number) says) ∙ none)
 
--- a place of the shortlist
-abbrev placeOf : Search → ℕ → ℕ → Place
-placeOf r p d = record { item = d; low = r .low p d; high = r .high p d }
-
 -- a search that ran: its answer, from what was done and the four slices
 pub ran-answer : (r : Poses → Query → Search) (l : Lent) (c : Checked) (d : Done) (a : Answer) (picks lows highs marks work : List ℕ)
     → c .number ≡ 0 → valueOf c ≡ told (searchVerdict l) → Did (posesOf l) (l .k) (r (posesOf l) (queryOf l)) d
@@ -141,9 +130,6 @@ ran-answer r l c d a picks lows highs marks work none says did ran t left =
     let by = r s (queryOf l) in
     let p = did .rows-are in
     let best = kept s k by (d .rows) in
-    let item-map : map (λ (x : Place). x .item) (map (placeOf by (d .rows)) best) ≡ best = map-map (placeOf by (d .rows)) (λ (x : Place). x .item) best ∙ map-id best in
-    let low-map : map (λ (x : Place). x .low) (map (placeOf by (d .rows)) best) ≡ map (by .low (d .rows)) best = map-map (placeOf by (d .rows)) (λ (x : Place). x .low) best in
-    let high-map : map (λ (x : Place). x .high) (map (placeOf by (d .rows)) best) ≡ map (by .high (d .rows)) best = map-map (placeOf by (d .rows)) (λ (x : Place). x .high) best in
     record {
       number-is = rw e (t .number-is);
       list-is = rw e (t .list-is);
@@ -152,9 +138,9 @@ ran-answer r l c d a picks lows highs marks work none says did ran t left =
       sorted-are = rw (e, ← p) (t .sorted-are ∙ did .sorted-are);
       direct-are = rw (e, ← p) (t .direct-are ∙ did .direct-are);
       random-are = rw (e, ← p) (t .random-are ∙ did .random-are);
-      picks-are = rw (e, ← p, item-map) (ran .shortlist .picks-are);
-      lows-are = rw (e, ← p, low-map) (ran .shortlist .lows-are);
-      highs-are = rw (e, ← p, high-map) (ran .shortlist .highs-are);
+      picks-are = rw (e, ← p, items-of by (d .rows) best) (ran .shortlist .picks-are);
+      lows-are = rw (e, ← p, lows-of by (d .rows) best) (ran .shortlist .lows-are);
+      highs-are = rw (e, ← p, highs-of by (d .rows) best) (ran .shortlist .highs-are);
       tally-is = rw (e, ← p) (ran .tally-is);
       work-is = left;
     }

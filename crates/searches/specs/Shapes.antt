@@ -158,7 +158,6 @@ unfolding checkShape noLists short
 check-shape m n rule k weights items scores work picks lows highs tally h =
     rw (h .sizes, le-ltb (length items) (m * n) (h .items-long), le-ltb (length scores) (m * n) (h .scores-long), le-ltb (length work) (m * n) (h .work-long))
 
-
 -- What an accepted call is
 pub record Accepts (l : Lent) : Type 0 where
   pub lists-valid : Valid (posesOf l)
@@ -177,4 +176,5 @@ accepts l e =
       lists-valid = valid (posesOf l) (l .work) (rw (check-shape (l .m) (l .n) (l .rule) (l .k) (l .weights) (l .items) (l .scores) (l .work) (length (l .picks)) (length (l .lows)) (length (l .highs)) (length (l .tally)) h) all);
       k-least = ks .0;
       k-most = ks .1;
-      shape = h }
+      shape = h;
+    }
