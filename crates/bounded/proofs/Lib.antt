@@ -1,15 +1,15 @@
 -- Laws that the proofs of this crate cite.
 --     Sliding    entries moved one place on, and a value put in
---     Keeping    one item into the shortlist
 --     Filling    slices written from the front
+--     Keeping    one item into the shortlist
 --     Items      the items one after the other
 --     Marks      items' marks, the k-th low, and the test by it
 --     Narrowing  the search for the row after which NRA stops
 --     Reading    what the code reads is what the definitions say; the run as a whole
 mod Sliding
-mod Narrowing
-mod Reading
-mod Marks
-mod Items
 mod Filling
 mod Keeping
+mod Items
+mod Marks
+mod Narrowing
+mod Reading

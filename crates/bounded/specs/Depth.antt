@@ -4,6 +4,7 @@
 --     read-deep                              a local score, where its position is one of the first p
 --     met-deep, met-stays                    an item is met where one of its positions is; once met, it stays so
 --     all-met                                after n rows every item is met
+--     low-whole                              after n rows an item's low is its high
 --     low-rises, high-falls, low-most        no low falls and no high rises from row to row; a low is at most the high
 -- Assumes nothing.
 use mathlib.Core.Path.{_≡_, refl, sym, _∙_}
@@ -21,7 +22,7 @@ use Rattle.model.specs.Searches.{readOr, lowNRA, highNRA}
 use Rattle.laws.specs.Tests.{by-cases, some-hit, some-found}
 use Rattle.laws.specs.Lists.{table-same}
 use Rattle.laws.specs.Lookups.{once, times-append, times-one}
-use Rattle.laws.specs.Overall.{overall-rises}
+use Rattle.laws.specs.Overall.{overall-same, overall-rises}
 use Rattle.laws.specs.Accepted.{Valid}
 
 -- equal tests pass alike
@@ -137,3 +138,10 @@ module _ (s : Poses) (q : Query) where
       (by-cases (ltb (place s i d) r)
       (λ (y : ltb (place s i d) r ≡ true). rw y (v .falls i (p - 1) (place s i d) hi (omega arith) (v .has-place i d hi hd)))
       (λ (w : ltb (place s i d) r ≡ false). rw w (v .falls i (p - 1) (r - 1) hi (omega arith) (omega arith)))))))
+
+  pub low-whole : (d : ℕ) → Valid s → d < s .n → lowNRA s q (s .n) d ≡ highNRA s q (s .n) d
+  unfolding lowNRA highNRA
+  low-whole d v hd =
+      overall-same s q (λ i. readOr s (s .n) d i 0) (λ i. readOr s (s .n) d i (score s i (s .n - 1)))
+      (λ i hi.
+      rw (read-deep s (s .n) d i 0 hi, read-deep s (s .n) d i (score s i (s .n - 1)) hi, lt-ltb (place s i d) (s .n) (v .has-place i d hi hd)))

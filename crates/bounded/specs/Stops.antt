@@ -3,23 +3,26 @@
 --     stops-stay                 where the test holds after a row, it holds after every later one
 --     rows-are                   so NRA stops after row r where the test holds there, or r is n, and it fails after one row less
 --     kept-full                  k items are kept then
+--     stops-last                 after row n the test holds in any case
 -- Assumes nothing.
-use mathlib.Core.Path.{_≡_, refl, sym, _∙_}
-use mathlib.Core.Bool.{true, false, true≢false}
+use mathlib.Core.Path.{_≡_, refl, sym, ap, _∙_}
+use mathlib.Core.Bool.{true, false, _||_, true≢false}
 use Prim.Native.Nat.{ℕ, suc, _-_, _≤_, _<_}
 use native.Mathlib.Omega.{arith}
 use lib.Dec.{leb, ltb}
 use lib.ListN.{length, length-take}
-use borrow.Author.Tests.{leb-true, ltb-true, ltb-false}
-use Rattle.model.specs.Words.{first}
+use borrow.Author.Tests.{leb-true, le-leb, ltb-true, ltb-false}
+use Rattle.model.specs.Words.{first, lastOf}
 use Rattle.model.specs.Given.{Poses, Query}
 use Rattle.model.specs.Accesses.{rowsNRA, met}
-use Rattle.model.specs.Searches.{ahead, ranked, lowNRA, highNRA, NRA, order, kept, stops, rows}
-use Rattle.laws.specs.Tests.{by-cases, and-yes, first-most, first-least, first-passes, first-skips}
+use Rattle.model.specs.Searches.{ahead, ranked, among, lowNRA, highNRA, NRA, order, kept, stops, rows}
+use Rattle.laws.specs.Tests.{by-cases, and-yes, every-all, first-most, first-least, first-passes, first-skips}
 use Rattle.laws.specs.Passing.{passing-all}
 use Rattle.laws.specs.Ranking.{ranked-length}
+use Rattle.laws.specs.Ahead.{ahead-ordering, ahead-low}
+use Rattle.laws.specs.Kept.{kept-others}
 use Rattle.laws.specs.Accepted.{Valid}
-use Rattle.bounded.specs.Depth.{met-stays, all-met, low-rises, high-falls, low-most}
+use Rattle.bounded.specs.Depth.{met-stays, all-met, low-whole, low-rises, high-falls, low-most}
 use Rattle.bounded.specs.Bar.{held, halts, halts-stay}
 
 module _ (s : Poses) (q : Query) (k : ℕ) where
@@ -86,3 +89,25 @@ module _ (s : Poses) (q : Query) (k : ℕ) where
         ranked-length before (met s (rowsNRA s r)) (s .n)
         ∙ passing-all (met s (rowsNRA s r)) (s .n) (λ d hd. rw whole (all-met s d v hd)) in
         omega (arith, length-take k l))
+
+    -- "All four stop at row or round n at the latest": the test holds there
+    pub stops-last : k ≤ s .n → stops s k (NRA s q) (s .n) ≡ true
+    unfolding halts held
+    stops-last k-most =
+        let p = s .n in
+        let low = lowNRA s q p in
+        let high = highNRA s q p in
+        let before = ahead low high in
+        let l = held p k low high (met s (rowsNRA s p)) in
+        let full : length l ≡ k = ap length (sym (kept-held p)) ∙ kept-full p k-most (omega arith) (λ h. absurd (omega arith)) in
+        let behind : (d : ℕ) → d < p → among d l ≡ false → high d ≤ low (lastOf 0 l) =
+        λ d hd z.
+        let after = kept-others before (ahead-ordering low high) (met s (rowsNRA s p)) p k some full d hd (all-met s d v hd) z in
+        omega (arith, low-whole s q d v hd, ahead-low low high (lastOf 0 l) d after) in
+        stops-halts p
+        ∙ rw (le-leb k (length l) (omega arith))
+        (every-all (λ d. among d l || leb (high d) (low (lastOf 0 l))) p
+        (λ d hd.
+        by-cases (among d l)
+        (λ (y : among d l ≡ true). rw y)
+        (λ (z : among d l ≡ false). rw z (le-leb (high d) (low (lastOf 0 l)) (behind d hd z)))))
