@@ -1,6 +1,5 @@
 -- Accepted calls of the four functions, and all that is claimed of what they return and leave in their slices.
 --     Call           a call of a search over a pose set, a query and k that was accepted, with whatever slices
---     allTold        the accesses of an answer, of whatever kind
 --     Returns        what is claimed of each of the four
 --     Delivered      what is claimed of the four together; `delivered` of Kept.antt proves it
 -- Assumes nothing.
@@ -13,7 +12,7 @@ use Rattle.model.specs.Searches.{Search}
 use Rattle.model.specs.Refusals.{Lent, posesOf, queryOf}
 use Rattle.laws.specs.Sums.{sum}
 use Rattle.searches.specs.declared.Answer.{Answer}
-use Rattle.searches.specs.Answered.{Searched}
+use Rattle.searches.specs.Answered.{allTold, Searched}
 
 -- A call of the search r over the pose set s, the query q and k, that was accepted: its answer, and the slices of shortlist and
 -- tally as it leaves them. What slices were lent, and what was in them, does not matter
@@ -25,10 +24,6 @@ pub record Call (r : Poses → Query → Search) (s : Poses) (q : Query) (k : �
   pub same-k : lent .k ≡ k
   pub searched : Searched r lent a picks lows highs marks work
   pub accepted : a .number ≡ 0
-
--- the accesses of an answer, of whatever kind
-abbrev pub allTold : Answer → ℕ
-allTold a = a .sorted .0 + a .direct .0 + a .random .0
 
 -- What is claimed of each of the four
 pub record Returns (s : Poses) (q : Query) (k : ℕ) (a : Answer) (picks lows highs marks : List ℕ) : Type 0 where

@@ -27,7 +27,7 @@ use Rattle.demands.specs.Promised.{promised}
 use Rattle.meeting.specs.Contracts.{Ran}
 use Rattle.searches.specs.declared.Answer.{Answer}
 use Rattle.searches.specs.Promises.{Finds, accepted-finds, accepted-call}
-use Rattle.promises.specs.Calls.{Call, allTold, Returns, Delivered}
+use Rattle.promises.specs.Calls.{Call, Returns, Delivered}
 
 -- What an accepted call tells and leaves, over its pose set, query and k
 pub record Gives (s : Poses) (k : ℕ) (r : Search) (a : Answer) (picks lows highs marks : List ℕ) : Type 0 where

@@ -1,11 +1,12 @@
 -- What a search promises of its answer and of the five slices that it may write.
+--     allTold                the accesses of an answer, of whatever kind
 --     RefusedBy, Tells       an answer from a refusal, and from what a run has done
 --     Did, OnlySorted        what a run has done: the row at which it stops and its accesses; the same for NRA, by its rows
 --     Searched               what each of the four searches promises, at every input
 -- Assumes nothing.
 use mathlib.Core.Path.{_≡_}
 use mathlib.Core.List.{List}
-use Prim.Native.Nat.{ℕ, _*_}
+use Prim.Native.Nat.{ℕ, _+_, _*_}
 use Rattle.model.specs.Given.{Poses, Query}
 use Rattle.model.specs.Searches.{Search, rows}
 use Rattle.model.specs.Accesses.{sorted, direct, random, made}
@@ -14,6 +15,10 @@ use Rattle.model.specs.Answers.{answer, slices}
 use Rattle.lists.specs.declared.Checked.{Checked}
 use Rattle.meeting.specs.declared.Done.{Done}
 use Rattle.searches.specs.declared.Answer.{Answer}
+
+-- the accesses of an answer, of whatever kind
+abbrev pub allTold : Answer → ℕ
+allTold a = a .sorted .0 + a .direct .0 + a .random .0
 
 -- a refusal's number, list and position; "All other numbers in it are 0"
 pub record RefusedBy (c : Checked) (a : Answer) : Type 0 where

@@ -13,7 +13,7 @@ ghost use Rattle.model.specs.Words.{over};
 ghost use Rattle.model.specs.Searches.{TA, BPA, BPA2, NRA};
 ghost use Rattle.scored.specs.Run.{searchBy};
 ghost use Rattle.searches.specs.Contracts.{lentWith};
-ghost use Rattle.searches.specs.Answered.{RefusedBy, Tells, OnlySorted, Searched};
+ghost use Rattle.searches.specs.Answered.{allTold, RefusedBy, Tells, OnlySorted, Searched};
 
 // What a search gives back beside the slices: 0 or the number of a refusal with its list and position, the rows
 // or rounds, and the accesses by kind.
@@ -25,6 +25,13 @@ pub struct Answer {
     pub sorted: Sorted,
     pub direct: Direct,
     pub random: Random,
+}
+
+// All accesses of a search, of whatever kind: the one place where the kinds are joined.
+pub fn total(a: Answer) -> u64
+    ensures { λ r. ⌜ r ≡ allTold a ⌝ }
+{
+    (a.sorted.0 as u64) + (a.direct.0 as u64) + (a.random.0 as u64)
 }
 
 // All numbers but the refusal's own are 0.
