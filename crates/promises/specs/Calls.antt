@@ -4,12 +4,15 @@
 --     Delivered      what is claimed of the four together; `delivered` of Kept.antt proves it
 -- Assumes nothing.
 use mathlib.Core.Path.{_≡_}
+use mathlib.Core.Bool.{true, false}
 use mathlib.Core.List.{List}
 use Prim.Native.Nat.{ℕ, _+_, _-_, _*_, _≤_, _<_}
 use lib.ListN.{length, getD, take}
 use Rattle.model.specs.Given.{Poses, Query, total}
-use Rattle.model.specs.Searches.{Search}
+use Rattle.model.specs.Accesses.{met, rounds}
+use Rattle.model.specs.Searches.{Search, stops}
 use Rattle.model.specs.Refusals.{Lent, posesOf, queryOf}
+use Rattle.laws.specs.Passing.{passing}
 use Rattle.laws.specs.Sums.{sum}
 use Rattle.searches.specs.declared.Answer.{Answer}
 use Rattle.searches.specs.Answered.{allTold, Searched}
@@ -26,7 +29,7 @@ pub record Call (r : Poses → Query → Search) (s : Poses) (q : Query) (k : �
   pub accepted : a .number ≡ 0
 
 -- What is claimed of each of the four
-pub record Returns (s : Poses) (q : Query) (k : ℕ) (a : Answer) (picks lows highs marks : List ℕ) : Type 0 where
+pub record Returns (s : Poses) (q : Query) (k : ℕ) (r : Search) (a : Answer) (picks lows highs marks : List ℕ) : Type 0 where
   -- it returns k different items
   pub items : (j : ℕ) → j < k → getD picks j 0 < s .n
   pub different : (i j : ℕ) → i < k → j < k → getD picks i 0 ≡ getD picks j 0 → i ≡ j
@@ -35,9 +38,11 @@ pub record Returns (s : Poses) (q : Query) (k : ℕ) (a : Answer) (picks lows hi
   -- each true score lies between the low and the high returned
   pub low-below : (j : ℕ) → j < k → getD lows j 0 ≤ total s q (getD picks j 0)
   pub high-above : (j : ℕ) → j < k → total s q (getD picks j 0) ≤ getD highs j 0
-  -- it stops at row or round n at the latest
+  -- it stops at row or round n at the latest, because its own test then holds, and at none before
   pub rows-least : 1 ≤ a .rows
   pub rows-most : a .rows ≤ s .n
+  pub own-test : stops s k r (a .rows) ≡ true
+  pub not-sooner : (p : ℕ) → 1 ≤ p → p < a .rows → stops s k r p ≡ false
   -- the three counts add up to the tally's sum, and no tally is above m
   pub adds-up : allTold a ≡ sum (take (s .m * s .n) marks)
   pub tally-most : (x : ℕ) → x < s .m * s .n → getD marks x 0 ≤ s .m
@@ -50,7 +55,9 @@ pub record Delivered (s : Poses) (q : Query) (k : ℕ) (ta bpa bpa2 nra : Answer
   pub bpa2-rows : bpa2 .rows ≤ bpa .rows
   -- BPA2 visits no position of any list twice
   pub bpa2-once : (x : ℕ) → x < s .m * s .n → getD marks₂ x 0 ≤ 1
-  -- its random accesses are exactly m - 1 for each direct one, and none is sorted: m accesses for each item met
+  -- and makes in all exactly m accesses for each item it has met: one direct, m - 1 random for each direct one, none sorted
+  pub bpa2-met : bpa2 .direct .0 ≡ passing (met s (rounds s (bpa2 .rows))) (s .n)
+  pub bpa2-all : allTold bpa2 ≡ s .m * passing (met s (rounds s (bpa2 .rows))) (s .n)
   pub bpa2-random : bpa2 .random .0 ≡ (s .m - 1) * bpa2 .direct .0
   pub bpa2-sorted : bpa2 .sorted .0 ≡ 0
   -- TA and BPA make m sorted and m x (m - 1) random accesses a row

@@ -21,7 +21,7 @@ use Rattle.laws.specs.Tests.{by-cases}
 use Rattle.laws.specs.Lists.{map-at, over-at, table-length, table-at, place-of}
 use Rattle.laws.specs.Accepted.{Valid}
 use Rattle.laws.specs.Ranking.{among-at, among-found}
-use Rattle.laws.specs.Sums.{sum}
+use Rattle.laws.specs.Sums.{sum, made-length}
 use Rattle.demands.specs.Promise.{Owed, Promise, allMade}
 use Rattle.demands.specs.Promised.{promised}
 use Rattle.meeting.specs.Contracts.{Ran}
@@ -62,7 +62,7 @@ module _ {r : Poses → Query → Search} {s : Poses} {q : Query} {k : ℕ} {a :
 -- what is claimed of a search, from what it owes and from bounds of an item's score
 returns : (s : Poses) (q : Query) (k : ℕ) (r : Search) (a : Answer) (picks lows highs marks : List ℕ) → Owed s q k r
     → ((d : ℕ) → d < s .n → r .low (rows s k r) d ≤ total s q d) → ((d : ℕ) → d < s .n → total s q d ≤ r .high (rows s k r) d)
-    → Gives s k r a picks lows highs marks → Returns s q k a picks lows highs marks
+    → Gives s k r a picks lows highs marks → Returns s q k r a picks lows highs marks
 unfolding over tally
 returns s q k r a picks lows highs marks owed below above g =
     let f = g .finds in
@@ -95,28 +95,30 @@ returns s q k r a picks lows highs marks owed below above g =
       high-above = λ j h. rw (high j h) (above (getD picks j 0) (item j h));
       rows-least = rw (f .rows-are) (owed .row-least);
       rows-most = rw (f .rows-are) (owed .row-most);
+      own-test = rw (f .rows-are) (owed .own-test);
+      not-sooner = λ x least h. owed .not-sooner x least (rw (← f .rows-are) h);
       adds-up =
           rw (f .sorted-are, f .direct-are, f .random-are, f .slices-are .tally-is)
           (owed .tallied p (owed .row-most) .adds-up ∙ ap sum (sym (rw (← marked) (take-append-seam (tally s tr) (drop (length (tally s tr)) (g .lent .tally))))));
       tally-most = λ x h. rw (f .slices-are .tally-is, over-at (tally s tr) (g .lent .tally) x 0 (omega (arith, marked))) (owed .tallied p (owed .row-most) .at-most-m x);
     }
 
-pub returned-ta : {s : Poses} {q : Query} {k : ℕ} {a : Answer} {picks lows highs marks : List ℕ} → Call TA s q k a picks lows highs marks → Returns s q k a picks lows highs marks
+pub returned-ta : {s : Poses} {q : Query} {k : ℕ} {a : Answer} {picks lows highs marks : List ℕ} → Call TA s q k a picks lows highs marks → Returns s q k (TA s q) a picks lows highs marks
 unfolding TA byScore
 returned-ta {s} {q} {k} {a} {picks} {lows} {highs} {marks} c =
     returns s q k (TA s q) a picks lows highs marks (all-owed c .ta) (λ d _. le-refl (total s q d)) (λ d _. le-refl (total s q d)) (gives c)
 
-pub returned-bpa : {s : Poses} {q : Query} {k : ℕ} {a : Answer} {picks lows highs marks : List ℕ} → Call BPA s q k a picks lows highs marks → Returns s q k a picks lows highs marks
+pub returned-bpa : {s : Poses} {q : Query} {k : ℕ} {a : Answer} {picks lows highs marks : List ℕ} → Call BPA s q k a picks lows highs marks → Returns s q k (BPA s q) a picks lows highs marks
 unfolding BPA byScore
 returned-bpa {s} {q} {k} {a} {picks} {lows} {highs} {marks} c =
     returns s q k (BPA s q) a picks lows highs marks (all-owed c .bpa) (λ d _. le-refl (total s q d)) (λ d _. le-refl (total s q d)) (gives c)
 
-pub returned-bpa2 : {s : Poses} {q : Query} {k : ℕ} {a : Answer} {picks lows highs marks : List ℕ} → Call BPA2 s q k a picks lows highs marks → Returns s q k a picks lows highs marks
+pub returned-bpa2 : {s : Poses} {q : Query} {k : ℕ} {a : Answer} {picks lows highs marks : List ℕ} → Call BPA2 s q k a picks lows highs marks → Returns s q k (BPA2 s q) a picks lows highs marks
 unfolding BPA2 byScore
 returned-bpa2 {s} {q} {k} {a} {picks} {lows} {highs} {marks} c =
     returns s q k (BPA2 s q) a picks lows highs marks (all-owed c .bpa2) (λ d _. le-refl (total s q d)) (λ d _. le-refl (total s q d)) (gives c)
 
-pub returned-nra : {s : Poses} {q : Query} {k : ℕ} {a : Answer} {picks lows highs marks : List ℕ} → Call NRA s q k a picks lows highs marks → Returns s q k a picks lows highs marks
+pub returned-nra : {s : Poses} {q : Query} {k : ℕ} {a : Answer} {picks lows highs marks : List ℕ} → Call NRA s q k a picks lows highs marks → Returns s q k (NRA s q) a picks lows highs marks
 unfolding NRA
 returned-nra {s} {q} {k} {a} {picks} {lows} {highs} {marks} c =
     let all = all-owed c in
@@ -142,6 +144,8 @@ delivered {s} {q} {k} {ta} {bpa} {bpa2} {nra} {t₂ = t₂} c₀ c₁ c₂ c₃ 
           let at = place-of (s .n) (s .m) x h in
           rw (f₂ .slices-are .tally-is, over-at (tally s made₂) (gives c₂ .lent .tally) x 0 (omega (arith, marked)), at .4, table-at (times made₂) (s .n) (s .m) (at .0) (at .1) 0 (at .2) (at .3))
           (all .bpa2-once (rows s k (BPA2 s q)) (at .0) (at .1) (at .2) (at .3));
+      bpa2-met = rw (f₂ .direct-are, f₂ .rows-are) (all .bpa2-direct (rows s k (BPA2 s q)));
+      bpa2-all = rw (f₂ .sorted-are, f₂ .direct-are, f₂ .random-are, f₂ .rows-are) (made-length made₂ ∙ all .bpa2-length (rows s k (BPA2 s q)));
       bpa2-random = rw (f₂ .random-are, f₂ .direct-are) (all .bpa2-random (rows s k (BPA2 s q)));
       bpa2-sorted = rw (f₂ .sorted-are) (all .bpa2-sorted (rows s k (BPA2 s q)));
       ta-sorted = rw (f₀ .sorted-are, f₀ .rows-are) (all .rows-sorted (rows s k (TA s q)));

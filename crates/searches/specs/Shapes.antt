@@ -3,7 +3,7 @@
 --     weights-long, weight-small     weights that pass their test
 --     k-passes           a k that passes its test
 --     Flat, numbered-shape, flat-shape       a shape's refusal has a number that is not 0, and carries 0, 0
---     Shape, shape-told      what the tests 1 to 6 let pass, from a shape that is accepted
+--     Shape, shape-told, shape-passes        what the tests 1 to 6 let pass: exactly where a shape is accepted
 --     numbered-search    a search's refusal has a number that is not 0
 --     check-shape        a search's shape that passes is one that the list check lets pass
 --     Accepts, accepts   what an accepted call is: k, the weights and the lists are right
@@ -109,6 +109,7 @@ module _ (m n rule k : ℕ) (weights : List ℕ) (items scores picks lows highs 
   pub record Shape : Type 0 where
     pub sizes : wrongSize m n ≡ false
     pub k-right : wrongK k n ≡ false
+    pub rule-right : wrongRule rule ≡ false
     pub weights-right : wrongWeights m weights ≡ false
     pub items-long : m * n ≤ items
     pub scores-long : m * n ≤ scores
@@ -134,6 +135,7 @@ module _ (m n rule k : ℕ) (weights : List ℕ) (items scores picks lows highs 
       record {
         sizes = when-passes 1 (wrongSize m n) (then-first one (two then three then four then five then six) e);
         k-right = when-passes 2 (wrongK k n) (then-first two (three then four then five then six) from2);
+        rule-right = when-passes 3 (wrongRule rule) (then-first three (four then five then six) from3);
         weights-right = when-passes 4 (wrongWeights m weights) (then-first four (five then six) from4);
         items-long = ltb-false items (m * n) (lists .0);
         scores-long = ltb-false scores (m * n) (lists .1);
@@ -143,6 +145,23 @@ module _ (m n rule k : ℕ) (weights : List ℕ) (items scores picks lows highs 
         tally-long = ltb-false tally (m * n) (r4 .1);
         work-long = ltb-false work (m * n) (r5 .1);
       }
+
+  pub shape-passes : Shape → shapeOf m n rule k weights items scores picks lows highs tally work ≡ accepted
+  unfolding shapeOf
+  shape-passes h =
+      rw (
+        h .sizes,
+        h .k-right,
+        h .rule-right,
+        h .weights-right,
+        le-ltb items (m * n) (h .items-long),
+        le-ltb scores (m * n) (h .scores-long),
+        le-ltb picks k (h .picks-long),
+        le-ltb lows k (h .lows-long),
+        le-ltb highs k (h .highs-long),
+        le-ltb tally (m * n) (h .tally-long),
+        le-ltb work (m * n) (h .work-long),
+      )
 
 -- a search's refusal has a number that is not 0
 pub numbered-search : (l : Lent) → Numbered (searchVerdict l)
