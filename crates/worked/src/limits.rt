@@ -1,0 +1,2 @@
+// Each limit with the value that is allowed and its neighbour.
+pub fn all() {}
