@@ -25,6 +25,13 @@ def with_score(score):
     return given
 
 
+def with_item(item):
+    """B's lists with another item at position 3 of list 2, after a 1 and a 2."""
+    given = given_b()
+    given.items[place(given, 2, 3)] = item
+    return given
+
+
 def with_last_weight(weight):
     """B's lists with weight 1,000, and another one for list 3."""
     given = given_b()
@@ -69,6 +76,7 @@ def calls():
     worked += [(f"k-{k}", given_b(k=k)) for k in (0, 5, 6)]
     worked += [(f"weight-{weight}", with_last_weight(weight)) for weight in (1000, 1001)]
     worked += [("score-equal", with_score(30)), ("score-above", with_score(31))]
+    worked += [("item-5", with_item(5)), ("item-again", with_item(1))]
     found = [(label, given, ample(), True) for label, given in worked]
     found += [("exact", given_b(), exact(), True)]
     found += [("items-14", cut("items"), exact(), True), ("scores-14", cut("scores"), exact(), True)]

@@ -34,6 +34,15 @@ fn neighbour(label: &[u8], score: u16) {
     run::four(label, query_of_b(), &items, &scores, &weights, run::ample());
 }
 
+// The item at position 3 of list 2, after a 1 and a 2.
+fn item(label: &[u8], item: u16) {
+    let mut items = B_ITEMS;
+    items[7] = item;
+    let scores = B_SCORES;
+    let weights = [0u8, 1, 0, 1, 0, 1];
+    run::four(label, query_of_b(), &items, &scores, &weights, run::ample());
+}
+
 // Room for two places of B's lists, with no entry to spare.
 fn exact() -> Room {
     Room {
@@ -181,6 +190,8 @@ pub fn all() {
     weight(b"weight-1001", 233);
     neighbour(b"score-equal", 30);
     neighbour(b"score-above", 31);
+    item(b"item-5", 5);
+    item(b"item-again", 1);
     rooms();
     lists();
 }

@@ -32,7 +32,8 @@ pub fn ample() -> Room {
     }
 }
 
-pub fn least(a: usize, b: usize) -> usize
+// The smaller of a length asked for and a length there is.
+fn least(a: usize, b: usize) -> usize
     ensures { λ r. ⌜ r ≤ b ⌝ }
 {
     if a < b { a } else { b }
@@ -83,8 +84,8 @@ fn by_rows(
     )
 }
 
-// TA, BPA, BPA2 or NRA, by its number.
-fn search(
+// BPA2 for 2, else NRA.
+fn by_rest(
     which: u8,
     q: Query,
     items: &[u16],
@@ -96,20 +97,6 @@ fn search(
     tally: &mut [u8],
     work: &mut [u16],
 ) -> Answer {
-    if which < 2 {
-        return by_rows(
-            which,
-            q,
-            items,
-            scores,
-            weights,
-            picks,
-            lows,
-            highs,
-            tally,
-            work,
-        );
-    }
     if which == 2 {
         return searches::bpa2(
             q.m,
@@ -140,6 +127,48 @@ fn search(
         tally,
         work,
     )
+}
+
+// TA, BPA, BPA2 or NRA, by its number.
+fn search(
+    which: u8,
+    q: Query,
+    items: &[u16],
+    scores: &[u16],
+    weights: &[u8],
+    picks: &mut [u16],
+    lows: &mut [u32],
+    highs: &mut [u32],
+    tally: &mut [u8],
+    work: &mut [u16],
+) -> Answer {
+    if which < 2 {
+        by_rows(
+            which,
+            q,
+            items,
+            scores,
+            weights,
+            picks,
+            lows,
+            highs,
+            tally,
+            work,
+        )
+    } else {
+        by_rest(
+            which,
+            q,
+            items,
+            scores,
+            weights,
+            picks,
+            lows,
+            highs,
+            tally,
+            work,
+        )
+    }
 }
 
 // What one search does with one case, in parts of the lent slices.
