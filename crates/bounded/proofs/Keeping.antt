@@ -4,7 +4,7 @@
 --     kept-out           a seat past the last of k places: nothing changes
 --     kept-in            else the item is slid in
 -- Assumes nothing.
-use mathlib.Core.Path.{_≡_, refl, sym, ap, _∙_}
+use mathlib.Core.Path.{_≡_, refl, sym, _∙_}
 use mathlib.Core.Bool.{false}
 use mathlib.Core.List.{List, _∷_, _++_, map}
 use Prim.Native.Nat.{ℕ, _+_, _-_, _≤_, _<_, min}
@@ -12,24 +12,17 @@ use native.Mathlib.Numerals.{add-one}
 use native.Mathlib.Omega.{arith}
 use lib.ListN.{length, getD, take, drop, length-map}
 use lib.Seq.{take-all, take-at}
-use Rattle.model.specs.Words.{over}
 use Rattle.model.specs.Searches.{ahead, insert, among}
-use Rattle.laws.specs.Lists.{map-at, map-take, map-drop, map-join, over-at}
+use Rattle.laws.specs.Lists.{map-at, over-at}
 use Rattle.laws.specs.Ahead.{ahead-ordering}
 use Rattle.laws.specs.Ranking.{Sorted, sorted-take, insert-sorted, insert-at}
-use Rattle.bounded.specs.Contracts.{aheadOf, Seated, slid, Keeps, Listing}
-use Rattle.bounded.proofs.Sliding.{slid-size, slid-inserts}
+use Rattle.meeting.specs.Contracts.{slid}
+use Rattle.meeting.specs.Sliding.{slid-size, slid-inserts, slid-maps}
+use Rattle.bounded.specs.Contracts.{aheadOf, Seated, Keeps, Listing}
 
 pub ahead-bounds : (f g : ℕ → ℕ) (d e : ℕ) → ahead f g d e ≡ aheadOf d (f d) (g d) e (f e) (g e)
 unfolding ahead aheadOf
 ahead-bounds f g d e = refl
-
--- a value put in at a seat, mapped
-map-seat : (f : ℕ → ℕ) (k r d : ℕ) (l : List ℕ)
-    → map f (take k (take r l ++ d ∷ drop r l)) ≡ take k (take r (map f l) ++ f d ∷ drop r (map f l))
-map-seat f k r d l =
-    map-take f k (take r l ++ d ∷ drop r l)
-    ∙ ap (take k) (map-join f (take r l) (d ∷ drop r l) ∙ rw (map-take f r l, map-drop f r l))
 
 module _ {f g : ℕ → ℕ} {l picks₀ lows₀ highs₀ picks lows highs : List ℕ} {filled d low high k : ℕ}
     (at : Listing f g l picks₀ lows₀ highs₀ filled picks lows highs) (low-is : low ≡ f d) (high-is : high ≡ g d)
@@ -70,30 +63,29 @@ module _ {f g : ℕ → ℕ} {l picks₀ lows₀ highs₀ picks lows highs : Lis
         let same : take k (insert (ahead f g) d l) ≡ l = rw (seat-is, whole) (take-at l (d ∷ drop r l) k full) in
         rw same at
 
-    -- a slice of what stands for each item, x for item d
-    slides : (h : ℕ → ℕ) (x : ℕ) (lent list : List ℕ) (last : ℕ) → (r ≡ k → ⊥) → last ≡ min filled (k - 1) → x ≡ h d
-        → list ≡ over (map h l) lent → slid r last x list ≡ over (map h (take k (insert (ahead f g) d l))) lent
-    slides h x lent list last inside is-last x-is list-is =
-        let same : length (map h l) ≡ length l = length-map l h in
-        rw (list-is, x-is, seat-is, map-seat h k r d l)
-        (slid-inserts (map h l) lent k r last (h d) (omega (arith, within)) (omega (arith, t .seat-most, room .filled-most))
-        (omega (arith, at .filled-is, room .filled-most)) (omega (arith, at .filled-is)))
+    module _ {last : ℕ} (inside : r ≡ k → ⊥) (is-last : last ≡ min filled (k - 1)) where
+      before-k : r < k
+      before-k = omega (arith, t .seat-most, room .filled-most)
 
-    pub kept-in : {last : ℕ} {picks′ lows′ highs′ : List ℕ} → (r ≡ k → ⊥) → last ≡ min filled (k - 1)
-        → picks′ ≡ slid r last d picks → lows′ ≡ slid r last low lows → highs′ ≡ slid r last high highs
-        → Listing f g (take k (insert (ahead f g) d l)) picks₀ lows₀ highs₀ (last + 1) picks′ lows′ highs′
-    kept-in {last} inside is-last picks-are lows-are highs-are =
-        record {
-          in-order = in-order-then;
-          filled-is = rw (seat-is, add-one last)
-              (sym (slid-size l picks₀ k r last d within (omega (arith, t .seat-most, room .filled-most))
-              (omega (arith, at .filled-is, room .filled-most)) (omega (arith, at .filled-is))));
-          shown = record {
-            picks-are = picks-are
-                ∙ rw (at .shown .picks-are, seat-is)
-                (slid-inserts l picks₀ k r last d within (omega (arith, t .seat-most, room .filled-most))
-                (omega (arith, at .filled-is, room .filled-most)) (omega (arith, at .filled-is)));
-            lows-are = lows-are ∙ slides f low lows₀ lows last inside is-last low-is (at .shown .lows-are);
-            highs-are = highs-are ∙ slides g high highs₀ highs last inside is-last high-is (at .shown .highs-are);
-          };
-        }
+      most : length l ≤ k
+      most = omega (arith, at .filled-is, room .filled-most)
+
+      last-is : last ≡ min (length l) (k - 1)
+      last-is = omega (arith, at .filled-is)
+
+      pub kept-in : {picks′ lows′ highs′ : List ℕ} → picks′ ≡ slid r last d picks → lows′ ≡ slid r last low lows
+          → highs′ ≡ slid r last high highs
+          → Listing f g (take k (insert (ahead f g) d l)) picks₀ lows₀ highs₀ (last + 1) picks′ lows′ highs′
+      kept-in picks-are lows-are highs-are =
+          record {
+            in-order = in-order-then;
+            filled-is = rw (seat-is, add-one last) (sym (slid-size l picks₀ k r last d within before-k most last-is));
+            shown = record {
+              picks-are = picks-are
+                  ∙ rw (at .shown .picks-are, seat-is) (slid-inserts l picks₀ k r last d within before-k most last-is);
+              lows-are = lows-are
+                  ∙ rw (at .shown .lows-are, low-is, seat-is) (slid-maps f l lows₀ k r last d within before-k most last-is);
+              highs-are = highs-are
+                  ∙ rw (at .shown .highs-are, high-is, seat-is) (slid-maps g l highs₀ k r last d within before-k most last-is);
+            };
+          }

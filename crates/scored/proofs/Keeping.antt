@@ -4,23 +4,24 @@
 --     kept-out           a seat past the last of k places: nothing changes
 --     kept-in            else the item is slid in
 -- Assumes nothing.
-use mathlib.Core.Path.{_≡_, refl, sym, ap, _∙_}
-use mathlib.Core.Bool.{Bool, true, false, _&&_, _||_}
-use mathlib.Core.List.{List, [], _∷_, _++_, map}
-use Prim.Native.Nat.{ℕ, zero, suc, _+_, _-_, _≤_, _<_, min}
+use mathlib.Core.Path.{_≡_, sym, ap, _∙_}
+use mathlib.Core.Bool.{true, false}
+use mathlib.Core.List.{List, _∷_, _++_, map}
+use Prim.Native.Nat.{ℕ, suc, _+_, _-_, _≤_, _<_, min}
+use native.Mathlib.Numerals.{add-one}
 use native.Mathlib.Omega.{arith}
 use lib.Dec.{eqb, ltb}
-use lib.ListN.{length, getD, take, drop, length-take, length-map}
-use lib.Seq.{take-all, take-at, length-take-le}
-use borrow.Author.Tests.{ltb-true, ltb-false}
+use lib.ListN.{length, getD, take, drop, length-map}
+use lib.Seq.{take-all, take-at}
 use Rattle.model.specs.Words.{over}
 use Rattle.model.specs.Searches.{ahead, insert, among}
 use Rattle.laws.specs.Tests.{by-cases}
-use Rattle.laws.specs.Lists.{map-at, map-take, map-drop, map-join, over-at}
+use Rattle.laws.specs.Lists.{map-at, over-length, over-at}
 use Rattle.laws.specs.Ahead.{ahead-ordering}
-use Rattle.laws.specs.Ranking.{Sorted, sorted-take, insert-sorted, insert-length, insert-at}
-use Rattle.scored.specs.Contracts.{aheadOf, Seated, slid, Keeps, Listing, Inserted}
-use Rattle.scored.proofs.Sliding.{slid-length, slid-inserts}
+use Rattle.laws.specs.Ranking.{Sorted, sorted-take, insert-sorted, insert-at}
+use Rattle.meeting.specs.Contracts.{slid}
+use Rattle.meeting.specs.Sliding.{slid-size, slid-inserts, slid-maps}
+use Rattle.scored.specs.Contracts.{aheadOf, Seated, Keeps, Listing}
 
 pub ahead-scores : (f : ℕ → ℕ) (d e : ℕ) → ahead f f d e ≡ aheadOf d (f d) e (f e)
 unfolding ahead aheadOf
@@ -60,27 +61,38 @@ module _ {f : ℕ → ℕ} {l picks₀ lows₀ picks lows : List ℕ} {filled d 
       let same : take k (insert (ahead f f) d l) ≡ l = rw (seat-is t, whole) (take-at l (d ∷ drop r l) k full) in
       rw same at
 
-  pub kept-in : {r last : ℕ} (picks′ lows′ : List ℕ) → Seated d x filled picks lows r → (r ≡ k → ⊥) → (filled < k → last ≡ filled) → (k ≤ filled → last + 1 ≡ k) → picks′ ≡ slid r last d picks → lows′ ≡ slid r last x lows → Listing f (take k (insert (ahead f f) d l)) picks₀ lows₀ (last + 1) picks′ lows′
-  kept-in {r} {last} picks′ lows′ t inside some-free none-free ep el =
-      let kp : k ≤ length picks₀ = omega (arith, room .picks-long, at .picks-as-long) in
-      let kl : k ≤ length lows₀ = omega (arith, room .lows-long, at .lows-as-long) in
-      let most : r ≤ length l = omega (arith, at .filled-is, t .seat-most) in
-      let rk : r < k = omega (arith, t .seat-most, room .filled-most) in
-      let open-at : length l < k → last ≡ length l = λ h. some-free (omega (arith, at .filled-is)) ∙ at .filled-is in
-      let shut-at : k ≤ length l → (length l ≡ k) × (last + 1 ≡ k) =
-      λ h. (omega (arith, at .filled-is, room .filled-most), none-free (omega (arith, at .filled-is))) in
-      let open-low : length (map f l) < k → last ≡ length (map f l) = rw (length-map l f) open-at in
-      let shut-low : k ≤ length (map f l) → (length (map f l) ≡ k) × (last + 1 ≡ k) = rw (length-map l f) shut-at in
-      let filled-then : last + 1 ≡ min k (suc (length l)) =
-      by-cases (ltb (length l) k)
-      (λ y. omega (arith, ltb-true (length l) k y, open-at (ltb-true (length l) k y)))
-      (λ z. omega (arith, shut-at (ltb-false (length l) k z) .0, shut-at (ltb-false (length l) k z) .1)) in
-      record {
-        in-order = in-order-then;
-        filled-is = rw (length-take, insert-length (ahead f f) d l) filled-then;
-        picks-are = ep ∙ rw (at .picks-are, seat-is t) (slid-inserts l picks₀ k r last d most rk kp open-at shut-at);
-        lows-are = el ∙ rw (at .lows-are, seat-is t, score, map-take, map-join, map-take)
-            (slid-inserts (map f l) lows₀ k r last (f d) (rw (length-map l f) most) rk kl open-low shut-low ∙ rw (map-drop f r l));
-        picks-as-long = ap length ep ∙ slid-length r last d picks ∙ at .picks-as-long;
-        lows-as-long = ap length el ∙ slid-length r last x lows ∙ at .lows-as-long;
-      }
+  module _ {r last : ℕ} (t : Seated d x filled picks lows r) (inside : r ≡ k → ⊥) (is-last : last ≡ min filled (k - 1)) where
+    within : r ≤ length l
+    within = omega (arith, at .filled-is, t .seat-most)
+
+    before-k : r < k
+    before-k = omega (arith, t .seat-most, room .filled-most)
+
+    most : length l ≤ k
+    most = omega (arith, at .filled-is, room .filled-most)
+
+    last-is : last ≡ min (length l) (k - 1)
+    last-is = omega (arith, at .filled-is)
+
+    size : length (take k (insert (ahead f f) d l)) ≡ suc last
+    size = rw (seat-is t) (slid-size l picks₀ k r last d within before-k most last-is)
+
+    pub kept-in : {picks′ lows′ : List ℕ} → picks′ ≡ slid r last d picks → lows′ ≡ slid r last x lows
+        → Listing f (take k (insert (ahead f f) d l)) picks₀ lows₀ (last + 1) picks′ lows′
+    kept-in {picks′} {lows′} picks-are lows-are =
+        let then = take k (insert (ahead f f) d l) in
+        let picks-then : picks′ ≡ over then picks₀ =
+        picks-are ∙ rw (at .picks-are, seat-is t) (slid-inserts l picks₀ k r last d within before-k most last-is) in
+        let lows-then : lows′ ≡ over (map f then) lows₀ =
+        lows-are ∙ rw (at .lows-are, score, seat-is t) (slid-maps f l lows₀ k r last d within before-k most last-is) in
+        record {
+          in-order = in-order-then;
+          filled-is = rw add-one (sym size);
+          picks-are = picks-then;
+          lows-are = lows-then;
+          picks-as-long = ap length picks-then
+              ∙ over-length then picks₀ (omega (arith, size, room .k-least, room .picks-long, at .picks-as-long));
+          lows-as-long = ap length lows-then
+              ∙ over-length (map f then) lows₀
+              (omega (arith, length-map then f, size, room .k-least, room .lows-long, at .lows-as-long));
+        }

@@ -1,13 +1,13 @@
--- `bounded::shortlist::slide_items` meets its contract. The loop's invariant: the entries from j on are moved one place on
+-- `meeting::sliding::slide_items` meets its contract. The loop's invariant: the entries from j on are moved one place on
 -- (`moved`); the measure is j.
 -- Assumes nothing.
 use mathlib.Core.Path.{_≡_, ap, _∙_}
 use Prim.Native.Nat.{suc, _-_, _≤_}
 use native.Mathlib.Omega.{arith}
 use lib.ListN.{length, length-set}
-use Rattle.bounded.proofs.Sliding.{moved, moved-length, moved-starts, moved-goes-on, moved-ends}
-use Rattle.bounded.proofs.shortlist.slide_items.Statement.{statement}
-use Rattle.bounded.proofs.shortlist.slide_items.Tie as tie
+use Rattle.meeting.proofs.Moving.{moved, moved-length, moved-starts, moved-goes-on, moved-ends}
+use Rattle.meeting.proofs.sliding.slide_items.Statement.{statement}
+use Rattle.meeting.proofs.sliding.slide_items.Tie as tie
 
 abbrev Inv-loop : tie.InvT-loop
 Inv-loop list₀ seat last x j₀ list j = (seat ≤ j) × (j ≤ last) × (list ≡ moved j last list₀)
@@ -61,8 +61,6 @@ loop-again c =
     let at-loop = c .before .before in
     let at-start = c .before .before .before in
     let in-turn = c .before in
-    let at-loop = at-loop in
-    let at-start = at-start in
     let last = at-start .args .last in
     let lent = at-start .args .list .now in
     let j = at-loop .loop .j in
@@ -92,7 +90,6 @@ returns : tie.Need-returns Inv-loop μ-loop
 returns c =
     let at-loop = c .before in
     let at-start = c .before .before in
-    let at-loop = at-loop in
     let a = at-start .args in
     let there : at-loop .loop .j ≡ a .seat = omega (arith, at-loop .loop .inv .0, c .loop-test .left) in
     rw (at-loop .loop .inv .2, there) (moved-ends (a .seat) (a .last) (a .x) (a .list .now) (at-start .pre .0) (at-start .pre .1))

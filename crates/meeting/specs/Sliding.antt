@@ -1,58 +1,20 @@
--- Entries moved one place on, from the last down to a seat, and a value put there.
---     moved                  the entries from j up to `last` stand one place on; entry j stands at its old place too
---     set-after              a store at the end of the first part
---     moved-starts, moved-goes-on, moved-ends    none is moved; one more is; x is put at the seat
+-- A value slid into a slice that begins with the list l: the first k of the list with the value put in, over what was lent.
 --     over-beyond            what stands past a list that was written over a slice
---     slid-inserts           x slid into the first k: the first k of the list with x put in, over what was lent
+--     slid-size, slid-inserts        how many these are; the slice
+--     slid-maps              the same where the slice holds a number for each item of the list
 -- Assumes nothing.
 use mathlib.Core.Path.{_≡_, sym, ap, _∙_}
-use mathlib.Core.List.{List, _∷_, _++_, append-assoc}
+use mathlib.Core.List.{List, _∷_, _++_, append-assoc, map}
 use Prim.Native.Nat.{ℕ, suc, _+_, _-_, _≤_, _<_, min}
 use native.Mathlib.Omega.{arith}
 use lib.Dec.{ltb}
-use lib.ListN.{length, getD, set, take, drop, length-append, length-take, length-drop, take-append-drop, List·getD-append}
-use lib.Seq.{take-suc, drop-cons, set-at, getD-take, length-take-le, take-all, take-append-le, drop-append-le, take-append-add, drop-append-add, drop-drop}
+use lib.ListN.{length, take, drop, length-append, length-take, length-drop, length-map}
+use lib.Seq.{length-take-le, take-all, take-append-le, drop-append-le, take-append-add, drop-append-add, drop-drop}
 use borrow.Author.Tests.{ltb-true, ltb-false}
 use Rattle.model.specs.Words.{over}
 use Rattle.laws.specs.Tests.{by-cases}
-use Rattle.bounded.specs.Contracts.{slid}
-
-unfoldable pub moved : ℕ → ℕ → List ℕ → List ℕ
-moved j last l = take (suc j) l ++ (take (last - j) (drop j l) ++ drop (suc last) l)
-
--- a store at the end of the first part
-set-after : (l rest : List ℕ) (j x : ℕ) → j < length l → set (take (suc j) l ++ rest) j x ≡ take j l ++ x ∷ rest
-set-after l rest j x h =
-    rw (take-suc l j 0 h, append-assoc)
-    (set-at (take j l) (getD l j 0) rest x j (length-take-le j l (omega arith)))
-
-pub moved-starts : (last : ℕ) (l : List ℕ) → l ≡ moved last last l
-unfolding moved
-moved-starts last l =
-    let none : last - last ≡ 0 = omega arith in
-    rw none (sym (take-append-drop (suc last) l))
-
-pub moved-goes-on : (i last : ℕ) (l : List ℕ) → i < last → last < length l
-    → set (moved (suc i) last l) (suc i) (getD (moved (suc i) last l) i 0) ≡ moved i last l
-unfolding moved
-moved-goes-on i last l h inside =
-    let rest = take (last - suc i) (drop (suc i) l) ++ drop (suc last) l in
-    let entry : getD (take (suc (suc i)) l ++ rest) i 0 ≡ getD l i 0 =
-    List·getD-append (take (suc (suc i)) l) rest 0 i (omega (arith, length-take-le (suc (suc i)) l (omega arith)))
-    ∙ getD-take (suc (suc i)) l i 0 (omega arith) in
-    let more : last - i ≡ suc (last - suc i) = omega arith in
-    rw (entry, more, drop-cons l i 0 (omega arith)) (set-after l rest (suc i) (getD l i 0) (omega arith))
-
-pub moved-ends : (seat last x : ℕ) (l : List ℕ) → seat ≤ last → last < length l
-    → set (moved seat last l) seat x ≡ slid seat last x l
-unfolding moved slid
-moved-ends seat last x l h inside = set-after l (take (last - seat) (drop seat l) ++ drop (suc last) l) seat x (omega arith)
-
--- the list is as long as it was
-pub moved-length : (j last : ℕ) (l : List ℕ) → j ≤ last → last < length l → length (moved j last l) ≡ length l
-unfolding moved
-moved-length j last l h inside =
-    rw (length-append, length-append, length-take (suc j) l, length-take (last - j) (drop j l), length-drop j l, length-drop (suc last) l) (omega arith)
+use Rattle.laws.specs.Lists.{map-take, map-drop, map-join}
+use Rattle.meeting.specs.Contracts.{slid}
 
 pub over-beyond : (l lent : List ℕ) (c : ℕ) → length l ≤ c → drop c (over l lent) ≡ drop c lent
 unfolding over
@@ -100,3 +62,17 @@ module _ (l lent : List ℕ) (k j last x : ℕ) (within : j ≤ length l) (insid
       let end : drop (suc last) (l ++ rest) ≡ drop (suc last) lent = over-beyond l lent (suc last) (omega arith) in
       rw (first-with, first-size, front, middle, end)
       (sym (append-assoc (take j l) (x ∷ take (last - j) (drop j l)) (drop (suc last) lent)))
+
+-- a value put in at a seat, mapped
+map-seat : (f : ℕ → ℕ) (k r d : ℕ) (l : List ℕ)
+    → map f (take k (take r l ++ d ∷ drop r l)) ≡ take k (take r (map f l) ++ f d ∷ drop r (map f l))
+map-seat f k r d l =
+    map-take f k (take r l ++ d ∷ drop r l)
+    ∙ ap (take k) (map-join f (take r l) (d ∷ drop r l) ∙ rw (map-take f r l, map-drop f r l))
+
+pub slid-maps : (f : ℕ → ℕ) (l lent : List ℕ) (k j last d : ℕ) → j ≤ length l → j < k → length l ≤ k → last ≡ min (length l) (k - 1)
+    → slid j last (f d) (over (map f l) lent) ≡ over (map f (take k (take j l ++ d ∷ drop j l))) lent
+slid-maps f l lent k j last d within inside most is-last =
+    let same : length (map f l) ≡ length l = length-map l f in
+    rw (map-seat f k j d l)
+    (slid-inserts (map f l) lent k j last (f d) (omega arith) inside (omega arith) (omega arith))
