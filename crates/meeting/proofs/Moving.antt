@@ -1,14 +1,14 @@
 -- Entries moved one place on, from the last down to a seat, and a value put there: what the loops of `sliding` do.
 --     moved                  the entries from j up to `last` stand one place on; entry j stands at its old place too
 --     set-after              a store at the end of the first part
---     moved-starts, moved-goes-on, moved-ends    none is moved; one more is; x is put at the seat
---     moved-length           the list is as long as it was
+--     Moving                 what holds while entries are moved
+--     moving-starts, moving-goes-on, moving-ends     none is moved; one more is; x is put at the seat
 -- Assumes nothing.
-use mathlib.Core.Path.{_≡_, sym, _∙_}
+use mathlib.Core.Path.{_≡_, refl, sym, _∙_}
 use mathlib.Core.List.{List, _∷_, _++_, append-assoc}
 use Prim.Native.Nat.{ℕ, suc, _-_, _≤_, _<_}
 use native.Mathlib.Omega.{arith}
-use lib.ListN.{length, getD, set, take, drop, length-append, length-take, length-drop, take-append-drop, List·getD-append}
+use lib.ListN.{length, getD, set, take, drop, length-set, take-append-drop, List·getD-append}
 use lib.Seq.{take-suc, drop-cons, set-at, getD-take, length-take-le}
 use Rattle.meeting.specs.Contracts.{slid}
 
@@ -21,13 +21,7 @@ set-after l rest j x h =
     rw (take-suc l j 0 h, append-assoc)
     (set-at (take j l) (getD l j 0) rest x j (length-take-le j l (omega arith)))
 
-pub moved-starts : (last : ℕ) (l : List ℕ) → l ≡ moved last last l
-unfolding moved
-moved-starts last l =
-    let none : last - last ≡ 0 = omega arith in
-    rw none (sym (take-append-drop (suc last) l))
-
-pub moved-goes-on : (i last : ℕ) (l : List ℕ) → i < last → last < length l
+moved-goes-on : (i last : ℕ) (l : List ℕ) → i < last → last < length l
     → set (moved (suc i) last l) (suc i) (getD (moved (suc i) last l) i 0) ≡ moved i last l
 unfolding moved
 moved-goes-on i last l h inside =
@@ -38,13 +32,41 @@ moved-goes-on i last l h inside =
     let more : last - i ≡ suc (last - suc i) = omega arith in
     rw (entry, more, drop-cons l i 0 (omega arith)) (set-after l rest (suc i) (getD l i 0) (omega arith))
 
-pub moved-ends : (seat last x : ℕ) (l : List ℕ) → seat ≤ last → last < length l
-    → set (moved seat last l) seat x ≡ slid seat last x l
-unfolding moved slid
-moved-ends seat last x l h inside = set-after l (take (last - seat) (drop seat l) ++ drop (suc last) l) seat x (omega arith)
+-- While entries are moved, from `last` down to the seat: those from j on are
+pub record Moving (l : List ℕ) (seat last : ℕ) (list : List ℕ) (j : ℕ) : Type 0 where
+  pub above-seat : seat ≤ j
+  pub below-last : j ≤ last
+  pub last-within : last < length l
+  pub as-long : length list ≡ length l
+  pub is-moved : list ≡ moved j last l
 
--- the list is as long as it was
-pub moved-length : (j last : ℕ) (l : List ℕ) → j ≤ last → last < length l → length (moved j last l) ≡ length l
+pub moving-starts : (l : List ℕ) (seat last : ℕ) → seat ≤ last → last < length l → Moving l seat last l last
 unfolding moved
-moved-length j last l h inside =
-    rw (length-append, length-append, length-take (suc j) l, length-take (last - j) (drop j l), length-drop j l, length-drop (suc last) l) (omega arith)
+moving-starts l seat last h inside =
+    let none : last - last ≡ 0 = omega arith in
+    record {
+      above-seat = h;
+      below-last = omega arith;
+      last-within = inside;
+      as-long = refl;
+      is-moved = rw none (sym (take-append-drop (suc last) l));
+    }
+
+module _ {l list : List ℕ} {seat last j : ℕ} (w : Moving l seat last list j) where
+  pub moving-goes-on : seat < j → Moving l seat last (set list j (getD list (j - 1) 0)) (j - 1)
+  moving-goes-on h =
+      let next : suc (j - 1) ≡ j = omega arith in
+      record {
+        above-seat = omega arith;
+        below-last = omega (arith, w .below-last);
+        last-within = w .last-within;
+        as-long = length-set list j (getD list (j - 1) 0) ∙ w .as-long;
+        is-moved = rw (w .is-moved) (rw next at (moved-goes-on (j - 1) last l (omega (arith, w .below-last)) (w .last-within)));
+      }
+
+  pub moving-ends : (x : ℕ) → j ≤ seat → set list j x ≡ slid seat last x l
+  unfolding moved slid
+  moving-ends x h =
+      let there : j ≡ seat = omega (arith, w .above-seat) in
+      rw (w .is-moved, there)
+      (set-after l (take (last - seat) (drop seat l) ++ drop (suc last) l) seat x (omega (arith, w .above-seat, w .below-last, w .last-within)))

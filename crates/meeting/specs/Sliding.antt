@@ -1,5 +1,4 @@
 -- A value slid into a slice that begins with the list l: the first k of the list with the value put in, over what was lent.
---     over-beyond            what stands past a list that was written over a slice
 --     slid-size, slid-inserts        how many these are; the slice
 --     slid-maps              the same where the slice holds a number for each item of the list
 -- Assumes nothing.
@@ -9,21 +8,12 @@ use Prim.Native.Nat.{ℕ, suc, _+_, _-_, _≤_, _<_, min}
 use native.Mathlib.Omega.{arith}
 use lib.Dec.{ltb}
 use lib.ListN.{length, take, drop, length-append, length-take, length-drop, length-map}
-use lib.Seq.{length-take-le, take-all, take-append-le, drop-append-le, take-append-add, drop-append-add, drop-drop}
+use lib.Seq.{length-take-le, take-all, take-append-le, drop-append-le, take-append-add}
 use borrow.Author.Tests.{ltb-true, ltb-false}
 use Rattle.model.specs.Words.{over}
 use Rattle.laws.specs.Tests.{by-cases}
-use Rattle.laws.specs.Lists.{map-take, map-drop, map-join}
+use Rattle.laws.specs.Lists.{map-take, map-drop, map-join, over-beyond}
 use Rattle.meeting.specs.Contracts.{slid}
-
-pub over-beyond : (l lent : List ℕ) (c : ℕ) → length l ≤ c → drop c (over l lent) ≡ drop c lent
-unfolding over
-over-beyond l lent c h =
-    let sum : length l + (c - length l) ≡ c = omega arith in
-    ap (λ (b : ℕ). drop b (l ++ drop (length l) lent)) (sym sum)
-    ∙ drop-append-add l (drop (length l) lent) (c - length l)
-    ∙ drop-drop (c - length l) (length l) lent
-    ∙ ap (λ (b : ℕ). drop b lent) sum
 
 module _ (l lent : List ℕ) (k j last x : ℕ) (within : j ≤ length l) (inside : j < k) (most : length l ≤ k) (is-last : last ≡ min (length l) (k - 1)) where
   -- what follows x among the first k

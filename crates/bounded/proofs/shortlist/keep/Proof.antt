@@ -1,7 +1,7 @@
 -- `bounded::shortlist::keep` meets its contract: seat k leaves everything as it is, any other seat is where the item is slid in.
 -- Assumes nothing.
 use borrow.Author.Needs.{needs}
-use Rattle.bounded.proofs.Keeping.{kept-out, kept-in}
+use Rattle.bounded.proofs.Keeping.{listing-out, listing-in}
 use Rattle.bounded.proofs.shortlist.keep.Statement.{statement}
 use Rattle.bounded.proofs.shortlist.keep.Tie as tie
 
@@ -23,7 +23,7 @@ returns c =
     let after-seat = c .before in
     let room = at-start .pre in
     let found = after-seat .seat .ensures in
-    record { inserts = λ f g l picks₀ lows₀ highs₀ low-is high-is new at. kept-out at low-is high-is new room found (c .if1 .taken) }
+    record { inserts = λ f g l picks₀ lows₀ highs₀ low-is high-is new at. listing-out at low-is high-is new room found (c .if1 .taken) }
 
 last-place-requires : tie.Need-last-place-requires
 last-place-requires c κs = search needs
@@ -66,7 +66,7 @@ returns-2 c =
     let high-slid = after-slide-scores2 .slide-scores2 .ensures in
     record {
       inserts = λ f g l picks₀ lows₀ highs₀ low-is high-is new at.
-          kept-in at low-is high-is new room found (else1 .if1 .left) last-is items low-slid high-slid;
+          listing-in at low-is high-is new room found (else1 .if1 .left) last-is items low-slid high-slid;
     }
 
 pub keep-spec : {M : Type 1} → statement M

@@ -1,7 +1,7 @@
 -- `scored::shortlist::keep` meets its contract: an item whose seat is past the last place is left out, any other is slid in.
 -- Assumes nothing.
 use borrow.Author.Needs.{needs}
-use Rattle.scored.proofs.Keeping.{kept-out, kept-in}
+use Rattle.scored.proofs.Keeping.{listing-out, listing-in}
 use Rattle.scored.proofs.shortlist.keep.Statement.{statement}
 use Rattle.scored.proofs.shortlist.keep.Tie as tie
 
@@ -19,7 +19,7 @@ returns c =
     let at-start = c .before .before .before .before .before .before in
     let after-seat = c .before in
     record {
-      inserts = λ f l picks₀ lows₀ at score new. kept-out at score new (at-start .pre) (after-seat .seat .ensures) (c .if1 .taken);
+      inserts = λ f l picks₀ lows₀ at score new. listing-out at score new (at-start .pre) (after-seat .seat .ensures) (c .if1 .taken);
     }
 
 last-place-requires : tie.Need-last-place-requires
@@ -50,7 +50,7 @@ returns-2 c =
     let else1 = c .before .before .before .before .before .before .before .before .before in
     record {
       inserts = λ f l picks₀ lows₀ at score new.
-          kept-in at score new (at-start .pre) (after-seat .seat .ensures) (else1 .if1 .left) (after-last-place .last-place .ensures)
+          listing-in at score new (at-start .pre) (after-seat .seat .ensures) (else1 .if1 .left) (after-last-place .last-place .ensures)
           (after-slide-items .slide-items .ensures) (after-slide-scores .slide-scores .ensures);
     }
 
