@@ -1,99 +1,68 @@
 -- An insertion into the shortlist: the seat that is found is the seat of the definition, and what is slid in is what it inserts.
 --     ahead-bounds       the order of the shortlist, on items with their lows and highs
---     seat-is            an item put in at the seat that was found
---     kept-out           a seat past the last of k places: nothing changes
---     kept-in            else the item is slid in
+--     seat-found         where the item belongs, by the definition
+--     listing-out        a seat past the last of k places: nothing changes
+--     listing-in         else the item is slid in
 -- Assumes nothing.
-use mathlib.Core.Path.{_≡_, refl, sym, ap, _∙_}
+use mathlib.Core.Path.{_≡_, refl, _∙_}
 use mathlib.Core.Bool.{false}
-use mathlib.Core.List.{List, _∷_, _++_, map}
+use mathlib.Core.List.{List}
 use Prim.Native.Nat.{ℕ, _+_, _-_, _≤_, _<_, min}
-use native.Mathlib.Numerals.{add-one}
 use native.Mathlib.Omega.{arith}
-use lib.ListN.{length, getD, take, drop, length-map}
-use lib.Seq.{take-all, take-at}
-use Rattle.model.specs.Words.{over}
+use lib.ListN.{length, getD, take}
 use Rattle.model.specs.Searches.{ahead, insert, among}
-use Rattle.laws.specs.Lists.{map-at, map-take, map-drop, map-join, over-at}
-use Rattle.laws.specs.Ahead.{ahead-ordering}
-use Rattle.laws.specs.Ranking.{Sorted, sorted-take, insert-sorted, insert-at}
-use Rattle.bounded.specs.Contracts.{aheadOf, Seated, slid, Keeps, Listing}
-use Rattle.bounded.proofs.Sliding.{slid-size, slid-inserts}
+use Rattle.laws.specs.Lists.{over-at, over-map-at}
+use Rattle.meeting.specs.Contracts.{slid}
+use Rattle.meeting.specs.Keeping.{Seat, in-order-then, kept-out, size-then, items-then, numbers-then}
+use Rattle.bounded.specs.Contracts.{aheadOf, Seated, Keeps, Listing}
 
 pub ahead-bounds : (f g : ℕ → ℕ) (d e : ℕ) → ahead f g d e ≡ aheadOf d (f d) (g d) e (f e) (g e)
 unfolding ahead aheadOf
 ahead-bounds f g d e = refl
 
--- a value put in at a seat, mapped
-map-seat : (f : ℕ → ℕ) (k r d : ℕ) (l : List ℕ)
-    → map f (take k (take r l ++ d ∷ drop r l)) ≡ take k (take r (map f l) ++ f d ∷ drop r (map f l))
-map-seat f k r d l =
-    map-take f k (take r l ++ d ∷ drop r l)
-    ∙ ap (take k) (map-join f (take r l) (d ∷ drop r l) ∙ rw (map-take f r l, map-drop f r l))
-
-module _ {f g : ℕ → ℕ} {l picks₀ lows₀ highs₀ picks lows highs : List ℕ} {filled d low high k : ℕ}
+module _ {f g : ℕ → ℕ} {l picks₀ lows₀ highs₀ picks lows highs : List ℕ} {filled d low high k r : ℕ}
     (at : Listing f g l picks₀ lows₀ highs₀ filled picks lows highs) (low-is : low ≡ f d) (high-is : high ≡ g d)
-    (new : among d l ≡ false) (room : Keeps k filled picks lows highs) where
-  -- what stands at place j
-  pick-at : (j : ℕ) → j < length l → getD picks j 0 ≡ getD l j 0
-  pick-at j h = rw (at .shown .picks-are) (over-at l picks₀ j 0 h)
-
-  low-at : (j : ℕ) → j < length l → getD lows j 0 ≡ f (getD l j 0)
-  low-at j h = rw (at .shown .lows-are) (over-at (map f l) lows₀ j 0 (rw length-map h) ∙ map-at f l j h)
-
-  high-at : (j : ℕ) → j < length l → getD highs j 0 ≡ g (getD l j 0)
-  high-at j h = rw (at .shown .highs-are) (over-at (map g l) highs₀ j 0 (rw length-map h) ∙ map-at g l j h)
-
+    (new : among d l ≡ false) (room : Keeps k filled picks lows highs) (t : Seated d low high filled picks lows highs r) where
   ahead-at : (j : ℕ) → j < length l
       → ahead f g d (getD l j 0) ≡ aheadOf d low high (getD picks j 0) (getD lows j 0) (getD highs j 0)
-  ahead-at j h = rw (low-is, high-is, pick-at j h, low-at j h, high-at j h) (ahead-bounds f g d (getD l j 0))
+  ahead-at j h =
+      rw (
+        low-is,
+        high-is,
+        at .shown .picks-are,
+        at .shown .lows-are,
+        at .shown .highs-are,
+        over-at l picks₀ j 0 h,
+        over-map-at f l lows₀ j h,
+        over-map-at g l highs₀ j h,
+      ) (ahead-bounds f g d (getD l j 0))
 
-  module _ {r : ℕ} (t : Seated d low high filled picks lows highs r) where
-    within : r ≤ length l
-    within = omega (arith, at .filled-is, t .seat-most)
+  seat-found : Seat f g l d k r
+  seat-found =
+      let within : r ≤ length l = omega (arith, at .filled-is, t .seat-most) in
+      record {
+        in-order = at .in-order;
+        new = new;
+        most = omega (arith, at .filled-is, room .filled-most);
+        within = within;
+        before-rest = λ a h lt. ahead-at a lt ∙ t .before-rest a h (omega (arith, at .filled-is));
+        behind-front = λ pos. ahead-at (r - 1) (omega arith) ∙ t .behind-front (r - 1) (omega arith);
+      }
 
-    pub seat-is : insert (ahead f g) d l ≡ take r l ++ d ∷ drop r l
-    seat-is =
-        insert-at (ahead f g) (ahead-ordering f g) d l r (at .in-order) within
-        (λ a h lt. ahead-at a lt ∙ t .before-rest a h (omega (arith, at .filled-is)))
-        (λ pos. ahead-at (r - 1) (omega (arith, within)) ∙ t .behind-front (r - 1) (omega arith))
+  pub listing-out : r ≡ k → Listing f g (take k (insert (ahead f g) d l)) picks₀ lows₀ highs₀ filled picks lows highs
+  listing-out e = rw (kept-out seat-found e) at
 
-    in-order-then : Sorted (ahead f g) (take k (insert (ahead f g) d l))
-    in-order-then =
-        sorted-take (ahead f g) k (insert (ahead f g) d l)
-        (insert-sorted (ahead f g) (ahead-ordering f g) d l new (at .in-order))
-
-    pub kept-out : r ≡ k → Listing f g (take k (insert (ahead f g) d l)) picks₀ lows₀ highs₀ filled picks lows highs
-    kept-out e =
-        let full : length l ≡ k = omega (arith, at .filled-is, t .seat-most, room .filled-most) in
-        let whole : take r l ≡ l = take-all r l (omega arith) in
-        let same : take k (insert (ahead f g) d l) ≡ l = rw (seat-is, whole) (take-at l (d ∷ drop r l) k full) in
-        rw same at
-
-    -- a slice of what stands for each item, x for item d
-    slides : (h : ℕ → ℕ) (x : ℕ) (lent list : List ℕ) (last : ℕ) → (r ≡ k → ⊥) → last ≡ min filled (k - 1) → x ≡ h d
-        → list ≡ over (map h l) lent → slid r last x list ≡ over (map h (take k (insert (ahead f g) d l))) lent
-    slides h x lent list last inside is-last x-is list-is =
-        let same : length (map h l) ≡ length l = length-map l h in
-        rw (list-is, x-is, seat-is, map-seat h k r d l)
-        (slid-inserts (map h l) lent k r last (h d) (omega (arith, within)) (omega (arith, t .seat-most, room .filled-most))
-        (omega (arith, at .filled-is, room .filled-most)) (omega (arith, at .filled-is)))
-
-    pub kept-in : {last : ℕ} {picks′ lows′ highs′ : List ℕ} → (r ≡ k → ⊥) → last ≡ min filled (k - 1)
-        → picks′ ≡ slid r last d picks → lows′ ≡ slid r last low lows → highs′ ≡ slid r last high highs
-        → Listing f g (take k (insert (ahead f g) d l)) picks₀ lows₀ highs₀ (last + 1) picks′ lows′ highs′
-    kept-in {last} inside is-last picks-are lows-are highs-are =
-        record {
-          in-order = in-order-then;
-          filled-is = rw (seat-is, add-one last)
-              (sym (slid-size l picks₀ k r last d within (omega (arith, t .seat-most, room .filled-most))
-              (omega (arith, at .filled-is, room .filled-most)) (omega (arith, at .filled-is))));
-          shown = record {
-            picks-are = picks-are
-                ∙ rw (at .shown .picks-are, seat-is)
-                (slid-inserts l picks₀ k r last d within (omega (arith, t .seat-most, room .filled-most))
-                (omega (arith, at .filled-is, room .filled-most)) (omega (arith, at .filled-is)));
-            lows-are = lows-are ∙ slides f low lows₀ lows last inside is-last low-is (at .shown .lows-are);
-            highs-are = highs-are ∙ slides g high highs₀ highs last inside is-last high-is (at .shown .highs-are);
-          };
-        }
+  pub listing-in : {last : ℕ} {picks′ lows′ highs′ : List ℕ} → (r ≡ k → ⊥) → last ≡ min filled (k - 1)
+      → picks′ ≡ slid r last d picks → lows′ ≡ slid r last low lows → highs′ ≡ slid r last high highs
+      → Listing f g (take k (insert (ahead f g) d l)) picks₀ lows₀ highs₀ (last + 1) picks′ lows′ highs′
+  listing-in {last} inside last-is picks-slid lows-slid highs-slid =
+      let last-place : last ≡ min (length l) (k - 1) = omega (arith, at .filled-is) in
+      record {
+        in-order = in-order-then seat-found;
+        filled-is = size-then seat-found inside last-place;
+        shown = record {
+          picks-are = items-then seat-found inside last-place picks₀ (at .shown .picks-are) picks-slid;
+          lows-are = numbers-then seat-found inside last-place f lows₀ low-is (at .shown .lows-are) lows-slid;
+          highs-are = numbers-then seat-found inside last-place g highs₀ high-is (at .shown .highs-are) highs-slid;
+        };
+      }

@@ -1,12 +1,10 @@
 -- Laws that the proofs of this crate cite.
---     Sliding    entries moved one place on, and a value put in
 --     Filling    slices written from the front
 --     Keeping    one item into the shortlist
 --     Items      the items one after the other
 --     Marks      items' marks, the k-th low, and the test by it
 --     Narrowing  the search for the row after which NRA stops
 --     Reading    what the code reads is what the definitions say; the run as a whole
-mod Sliding
 mod Filling
 mod Keeping
 mod Items

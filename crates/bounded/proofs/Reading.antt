@@ -8,33 +8,29 @@
 use mathlib.Core.Path.{_≡_, refl, sym, ap, _∙_}
 use mathlib.Core.Bool.{Bool, true, false, cond, _&&_, _||_, or-true}
 use mathlib.Core.List.{List, [], _∷_, map}
-use Prim.Native.Nat.{ℕ, zero, suc, _+_, _-_, _*_, _≤_, _<_}
+use Prim.Native.Nat.{ℕ, suc, _+_, _-_, _*_, _≤_, _<_}
 use native.Mathlib.Numerals.{add-one}
 use native.Mathlib.Omega.{arith}
 use lib.Dec.{eqb, leb, ltb}
 use lib.ListN.{length, getD, take}
 use borrow.Author.Tests.{eq-eqb}
-use Rattle.model.specs.Words.{everyBelow, lastOf, table, over}
+use Rattle.model.specs.Words.{lastOf, table, over}
 use Rattle.model.specs.Given.{Poses, Query, score, place, overall}
 use Rattle.model.specs.Accesses.{rowsNRA, met}
 use Rattle.model.specs.Searches.{ahead, among, readOr, lowNRA, highNRA, NRA, kept, stops}
+use Rattle.laws.specs.Tests.{some-same, every-same}
 use Rattle.laws.specs.Lookups.{once}
 use Rattle.laws.specs.Overall.{joined-same}
 use Rattle.laws.specs.Ranking.{ranked-same}
 use Rattle.laws.specs.Kept.{kept-item}
 use Rattle.lists.specs.Contracts.{poses}
 use Rattle.meeting.specs.Contracts.{queryWith, Readable, Room, readAt, unread}
-use Rattle.bounded.specs.Depth.{some-same, tally-deep, read-deep, met-deep}
+use Rattle.bounded.specs.Depth.{tally-deep, read-deep, met-deep}
 use Rattle.bounded.specs.Bar.{held, halts}
 use Rattle.bounded.specs.Stops.{kept-held, stops-halts, rows-are}
 use Rattle.bounded.specs.Contracts.{View, view, boundOf, metOf, heldOf, haltsOf, Legible, Listed, Halted, Finished}
 
 -- ---- equal lows, highs and met items
-every-same : (t u : ℕ → Bool) (n : ℕ) → ((i : ℕ) → i < n → t i ≡ u i) → everyBelow t n ≡ everyBelow u n
-unfolding everyBelow
-every-same t u zero h = refl
-every-same t u (suc n) h = rw (every-same t u n (λ i l. h i (omega arith)), h n (omega arith))
-
 module _ (n k : ℕ) (low high low′ high′ : ℕ → ℕ) (met met′ : ℕ → Bool)
     (same-low : (d : ℕ) → d < n → low d ≡ low′ d) (same-high : (d : ℕ) → d < n → high d ≡ high′ d) (same-met : (d : ℕ) → d < n → met d ≡ met′ d) where
   pub held-same : held n k low high met ≡ held n k low′ high′ met′

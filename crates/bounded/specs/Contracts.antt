@@ -4,7 +4,6 @@
 --     heldOf, haltsOf        the first k met items below c, in the order; NRA's test after p rows
 --     Legible                what reading after p rows asks
 --     aheadOf, Seated        the order on items with their lows and highs; where an item belongs among the first `filled`
---     slid                   a value put in at a seat, what stood from there on moved one place on
 --     Spaced, Keeps          k places are lent for the shortlist; the first `filled` of them hold items
 --     Listing, Inserted      items in the order in the three slices; what an insertion promises of any such items
 --     Listed, Considered     the first k items below c after p rows, in the three slices; one item more
@@ -15,10 +14,10 @@
 -- Assumes nothing.
 use mathlib.Core.Path.{_≡_}
 use mathlib.Core.Bool.{Bool, true, false, cond, _&&_, _||_}
-use mathlib.Core.List.{List, _∷_, _++_}
-use Prim.Native.Nat.{ℕ, suc, _+_, _-_, _*_, _≤_, _<_}
+use mathlib.Core.List.{List}
+use Prim.Native.Nat.{ℕ, suc, _+_, _*_, _≤_, _<_}
 use lib.Dec.{eqb, leb, ltb}
-use lib.ListN.{length, getD, take, drop}
+use lib.ListN.{length, getD, take}
 use Rattle.model.specs.Words.{someBelow}
 use Rattle.model.specs.Given.{Poses, Query, joined}
 use Rattle.model.specs.Searches.{ahead, insert, among, rows, NRA}
@@ -80,10 +79,6 @@ pub record Seated (d low high filled : ℕ) (picks lows highs : List ℕ) (r : �
   pub before-rest : (j : ℕ) → r ≤ j → j < filled
       → aheadOf d low high (getD picks j 0) (getD lows j 0) (getD highs j 0) ≡ true
   pub behind-front : (j : ℕ) → suc j ≡ r → aheadOf d low high (getD picks j 0) (getD lows j 0) (getD highs j 0) ≡ false
-
--- x at `seat`, what stood from there up to `last` one place on, and the rest as it was
-unfoldable pub slid : ℕ → ℕ → ℕ → List ℕ → List ℕ
-slid seat last x l = take seat l ++ x ∷ (take (last - seat) (drop seat l) ++ drop (suc last) l)
 
 pub record Spaced (k : ℕ) (picks lows highs : List ℕ) : Type 0 where
   pub k-least : 1 ≤ k

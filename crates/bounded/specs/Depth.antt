@@ -19,17 +19,11 @@ use Rattle.model.specs.Words.{count, someBelow, table}
 use Rattle.model.specs.Given.{Poses, Query, score, place}
 use Rattle.model.specs.Accesses.{sorted, rowNRA, rowsNRA, times, visited, met, tally}
 use Rattle.model.specs.Searches.{readOr, lowNRA, highNRA}
-use Rattle.laws.specs.Tests.{by-cases, some-hit, some-found}
+use Rattle.laws.specs.Tests.{by-cases, some-hit, some-found, some-same}
 use Rattle.laws.specs.Lists.{table-same}
 use Rattle.laws.specs.Lookups.{once, times-append, times-one}
 use Rattle.laws.specs.Overall.{overall-same, overall-rises}
 use Rattle.laws.specs.Accepted.{Valid}
-
--- equal tests pass alike
-pub some-same : (t u : ℕ → Bool) (n : ℕ) → ((i : ℕ) → i < n → t i ≡ u i) → someBelow t n ≡ someBelow u n
-unfolding someBelow
-some-same t u zero h = refl
-some-same t u (suc n) h = rw (some-same t u n (λ i l. h i (omega arith)), h n (omega arith))
 
 -- ---- visits
 times-none : (i q : ℕ) → times [] i q ≡ 0

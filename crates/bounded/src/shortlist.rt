@@ -1,9 +1,10 @@
 // The shortlist in its three slices: items, lows and highs, by low falling, then high falling, then item
 // rising.
+use meeting::sliding;
 ghost use mathlib.Core.Path.{_≡_};
-ghost use Prim.Native.Nat.{_-_, _≤_, _<_, min};
+ghost use Prim.Native.Nat.{_≤_};
 ghost use lib.ListN.{length};
-ghost use Rattle.bounded.specs.Contracts.{aheadOf, Seated, slid, Keeps, Inserted};
+ghost use Rattle.bounded.specs.Contracts.{aheadOf, Seated, Keeps, Inserted};
 
 // Item d with its low and high stands before item e with its own.
 fn ahead(d: u16, low: u32, high: u32, e: u16, lo: u32, hi: u32) -> bool
@@ -50,46 +51,6 @@ fn seat(
     j
 }
 
-// Puts x at `seat`, after moving what stands from there up to `last` one place on; what stood at `last`
-// goes.
-fn slide_items(list: &mut [u16], seat: usize, last: usize, x: u16)
-    requires { ⌜ (seat ≤ last) × (last < length (now list)) ⌝ }
-    ensures { λ _. ⌜ now (list .exit) ≡ slid seat last x (now (list .entry)) ⌝ }
-{
-    let mut j = last;
-    while seat < j {
-        let from = j - 1;
-        list[j] = list[from];
-        j = from;
-    }
-    list[j] = x;
-}
-
-// The same for lows and for highs.
-fn slide_bounds(list: &mut [u32], seat: usize, last: usize, x: u32)
-    requires { ⌜ (seat ≤ last) × (last < length (now list)) ⌝ }
-    ensures { λ _. ⌜ now (list .exit) ≡ slid seat last x (now (list .entry)) ⌝ }
-{
-    let mut j = last;
-    while seat < j {
-        let from = j - 1;
-        list[j] = list[from];
-        j = from;
-    }
-    list[j] = x;
-}
-
-// Where the last of at most k places stands once one more item is put among `filled`.
-fn last_place(filled: usize, k: usize) -> usize
-    requires { ⌜ 1 ≤ k ⌝ }
-    ensures { λ r. ⌜ r ≡ min filled (k - 1) ⌝ }
-{
-    if filled < k {
-        return filled;
-    }
-    k - 1
-}
-
 // Item d into the first k, and how many there are then. Seat k means that it is not kept.
 pub fn keep(
     d: u16,
@@ -108,9 +69,9 @@ pub fn keep(
     if at == k {
         return filled;
     }
-    let last = last_place(filled, k);
-    slide_items(picks, at, last, d);
-    slide_bounds(lows, at, last, low);
-    slide_bounds(highs, at, last, high);
+    let last = sliding::last_place(filled, k);
+    sliding::slide_items(picks, at, last, d);
+    sliding::slide_scores(lows, at, last, low);
+    sliding::slide_scores(highs, at, last, high);
     last + 1
 }

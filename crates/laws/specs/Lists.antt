@@ -10,19 +10,22 @@
 --     count-full                         where a count is the whole length, each entry passes
 --     map-at, map-take, map-drop, map-join       an entry of a mapped list; a part of one; of two joined
 --     over-length, over-at               a slice written over keeps its length; what stands in its first part
+--     over-map-at, over-beyond           the same of a mapped list; what stands past the first part
+--     over-more                          after l, as many entries as ys has
 -- Assumes nothing.
 use mathlib.Core.Path.{_≡_, refl, sym, ap, _∙_}
 use mathlib.Core.Bool.{Bool, true, false, cond, _&&_, true≢false}
 use mathlib.Core.Logic.{_≢_}
-use mathlib.Core.List.{List, [], _∷_, _++_, map}
+use mathlib.Core.List.{List, [], _∷_, _++_, append-assoc, map}
 use Prim.Native.Nat.{ℕ, zero, suc, _+_, _-_, _*_, _≤_, _<_}
 use native.Mathlib.Nat.{add-zero, zero-add, zero-mul, suc-mul, mul-le-mul-right, not-suc-le-zero, le-of-suc-le-suc}
 use native.Mathlib.Numerals.{add-one}
 use native.Mathlib.Omega.{arith}
 use lib.Dec.{eqb, ltb}
 use borrow.Author.Tests.{eqb-true, eqb-false, eq-eqb, ltb-true, ltb-false}
-use lib.ListN.{length, getD, set, take, drop, take-append-drop, replicate, length-append, length-drop, length-set, replicate-append-replicate, List·getD-append}
-use lib.Seq.{ext-getD, length-take-le, getD-take, getD-append-add, getD-append-seam, getD-set-same, getD-set-other}
+use lib.ListN.{length, getD, set, take, drop, take-append-drop, replicate, length-append, length-drop, length-map, length-set, replicate-append-replicate, List·getD-append}
+use lib.Seq.{ext-getD, length-take-le, drop-drop, drop-append-add, drop-append-seam, take-append-seam, getD-take, getD-append-add, getD-append-seam, getD-set-same, getD-set-other}
+use borrow.Rule.Slice.PartMut.{putMid}
 use Rattle.model.specs.Words.{count, row, table, over}
 use Rattle.laws.specs.Tests.{by-cases, below-suc, and-yes}
 
@@ -221,3 +224,23 @@ over-length l s h = rw (length-append, length-drop) (omega arith)
 pub over-at : (l s : List ℕ) (i x : ℕ) → i < length l → getD (over l s) i x ≡ getD l i x
 unfolding over
 over-at l s i x h = List·getD-append l (drop (length l) s) x i h
+
+pub over-map-at : (f : ℕ → ℕ) (l s : List ℕ) (i : ℕ) → i < length l → getD (over (map f l) s) i 0 ≡ f (getD l i 0)
+over-map-at f l s i h = over-at (map f l) s i 0 (rw length-map h) ∙ map-at f l i h
+
+pub over-beyond : (l s : List ℕ) (c : ℕ) → length l ≤ c → drop c (over l s) ≡ drop c s
+unfolding over
+over-beyond l s c h =
+    let sum : length l + (c - length l) ≡ c = omega arith in
+    ap (λ (b : ℕ). drop b (l ++ drop (length l) s)) (sym sum)
+    ∙ drop-append-add l (drop (length l) s) (c - length l)
+    ∙ drop-drop (c - length l) (length l) s
+    ∙ ap (λ (b : ℕ). drop b s) sum
+
+pub over-more : (l ys s : List ℕ) (a e : ℕ) → length l ≡ a → a + length ys ≡ e → putMid a (e - a) (over l s) ys ≡ over (l ++ ys) s
+unfolding over
+over-more l ys s a e la le =
+    let size : e - a ≡ length ys = omega arith in
+    let front : take a (l ++ drop (length l) s) ≡ l = rw (← la) (take-append-seam l (drop (length l) s)) in
+    let rest : drop a (l ++ drop (length l) s) ≡ drop (length l) s = rw (← la) (drop-append-seam l (drop (length l) s)) in
+    rw (front, rest, size, drop-drop, length-append) (sym (append-assoc l ys (drop (length l + length ys) s)))

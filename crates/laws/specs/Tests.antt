@@ -6,6 +6,7 @@
 --     some-hit, some-none    `someBelow` from its parts
 --     some-found, some-not   what `someBelow` tells: where it is true, the number that passes; where it is false, that none does
 --     every-all, every-at    `everyBelow` from its parts, and back
+--     some-same, every-same  two tests that agree
 --     first-most             `first` goes no further than p + f
 --     first-passes           where it stops before that, the test passes there
 --     first-skips            the test fails at each number that it has passed
@@ -69,6 +70,11 @@ some-found t (suc n) e =
     let r = some-found t n (by-cases (someBelow t n) (λ y. y) (λ (g : someBelow t n ≡ false). absurd (false≢true (rw (g, f) at e)))) in
     (r .0, omega (arith, r .1), r .2))
 
+pub some-same : (t u : ℕ → Bool) (n : ℕ) → ((i : ℕ) → i < n → t i ≡ u i) → someBelow t n ≡ someBelow u n
+unfolding someBelow
+some-same t u zero h = refl
+some-same t u (suc n) h = rw (some-same t u n (λ i l. h i (omega arith)), h n (omega arith))
+
 -- ---- everyBelow
 pub every-all : (t : ℕ → Bool) (n : ℕ) → ((i : ℕ) → i < n → t i ≡ true) → everyBelow t n ≡ true
 unfolding everyBelow
@@ -82,6 +88,11 @@ every-at t (suc n) i e h =
     by-cases (everyBelow t n)
     (λ (y : everyBelow t n ≡ true). let e′ : t n ≡ true = rw y at e in below-suc i n h (λ l. every-at t n i y l) (λ (q : i ≡ n). rw q e′))
     (λ (f : everyBelow t n ≡ false). absurd (false≢true (rw f at e)))
+
+pub every-same : (t u : ℕ → Bool) (n : ℕ) → ((i : ℕ) → i < n → t i ≡ u i) → everyBelow t n ≡ everyBelow u n
+unfolding everyBelow
+every-same t u zero h = refl
+every-same t u (suc n) h = rw (every-same t u n (λ i l. h i (omega arith)), h n (omega arith))
 
 -- ---- first
 pub first-most : (t : ℕ → Bool) (f p : ℕ) → first t f p ≤ p + f

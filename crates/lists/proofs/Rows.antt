@@ -5,40 +5,26 @@
 --     rows-stop, rows-done       what `note_lists` promises, from the refusal of a list and from all lists passed
 -- Assumes nothing.
 use mathlib.Core.Path.{_≡_, refl, sym, ap, _∙_}
-use mathlib.Core.List.{List, [], _∷_, _++_, append-assoc}
-use Prim.Native.Nat.{ℕ, zero, suc, _+_, _-_, _*_, _≤_, _<_}
+use mathlib.Core.List.{List, _++_}
+use Prim.Native.Nat.{ℕ, _+_, _-_, _*_, _≤_, _<_}
 use native.Mathlib.Numerals.{add-one}
 use native.Mathlib.Omega.{arith}
-use lib.ListN.{length, take, drop, length-append, length-drop}
-use lib.Seq.{drop-drop, take-append-seam, drop-append-add, drop-append-seam}
+use lib.ListN.{length, drop}
+use lib.Seq.{drop-drop}
 use borrow.Rule.Slice.PartMut.{putMid, drop-put}
 use Rattle.model.specs.Words.{row, table, over}
 use Rattle.model.specs.Given.{Poses, place}
-use Rattle.model.specs.Refusals.{Verdict, accepted, refused, firstRefusal, inList, inLists}
+use Rattle.model.specs.Refusals.{accepted, refused, firstRefusal, inList, inLists}
 use Rattle.model.specs.Answers.{Told, told, places}
-use Rattle.laws.specs.Lists.{row-length, table-length, table-room, over-length}
+use Rattle.laws.specs.Lists.{row-length, table-length, table-room, over-beyond, over-more}
 use Rattle.laws.specs.Verdicts.{accepted≢refused, by-verdict, first-refusal-at, numbered-list, told-zero}
 use Rattle.lists.specs.declared.Checked.{Checked}
 use Rattle.lists.specs.Contracts.{valueOf, ListsNoted}
-
--- ---- lists written one after the other over a lent slice
--- after l, ys in the place of as many that follow
-over-more : (l ys w : List ℕ) (a e : ℕ) → length l ≡ a → a + length ys ≡ e → putMid a (e - a) (over l w) ys ≡ over (l ++ ys) w
-unfolding over
-over-more l ys w a e la le =
-    let size : e - a ≡ length ys = omega arith in
-    let front : take a (l ++ drop (length l) w) ≡ l = rw (← la) (take-append-seam l (drop (length l) w)) in
-    let rest : drop a (l ++ drop (length l) w) ≡ drop (length l) w = rw (← la) (drop-append-seam l (drop (length l) w)) in
-    rw (front, rest, size, drop-drop, length-append) (sym (append-assoc l ys (drop (length l + length ys) w)))
 
 drop-further : (x y : List ℕ) (e c : ℕ) → drop e x ≡ drop e y → e ≤ c → drop c x ≡ drop c y
 drop-further x y e c same h =
     let sum : e + (c - e) ≡ c = omega arith in
     ap (λ (k : ℕ). drop k x) (sym sum) ∙ sym (drop-drop (c - e) e x) ∙ ap (drop (c - e)) same ∙ drop-drop (c - e) e y ∙ ap (λ (k : ℕ). drop k y) sum
-
-over-beyond : (l w : List ℕ) (c : ℕ) → length l ≤ c → drop c (over l w) ≡ drop c w
-unfolding over
-over-beyond l w c h = drop-further (l ++ drop (length l) w) w (length l) c (drop-append-seam l (drop (length l) w)) h
 
 module _ (s : Poses) (lent : List ℕ) where
   pub record RowsNoted (work : List ℕ) (i : ℕ) : Type 0 where

@@ -5,13 +5,14 @@
 --     Shown, Ran           the shortlist's slices; what the run of any search promises of the four slices that it writes
 --     readAt, unread       an item's local score as the slices have it, and what stands for one that is not read
 --     Located, Small       what the score of an item asks
+--     slid                 a value put in at a seat, what stood from there on moved one place on
 -- Assumes nothing.
 use mathlib.Core.Path.{_≡_}
 use mathlib.Core.Bool.{Bool, cond}
-use mathlib.Core.List.{List, map}
-use Prim.Native.Nat.{ℕ, _+_, _-_, _*_, _≤_, _<_}
+use mathlib.Core.List.{List, _∷_, _++_, map}
+use Prim.Native.Nat.{ℕ, suc, _+_, _-_, _*_, _≤_, _<_}
 use lib.Dec.{leb}
-use lib.ListN.{length, getD}
+use lib.ListN.{length, getD, take, drop}
 use Rattle.model.specs.Words.{over}
 use Rattle.model.specs.Given.{Poses, Query}
 use Rattle.model.specs.Accesses.{tally}
@@ -75,3 +76,7 @@ pub record Located (m n d depth : ℕ) (scores work : List ℕ) : Type 0 where
 pub record Small (weights scores : List ℕ) : Type 0 where
   pub weights-small : (i : ℕ) → getD weights i 0 ≤ 1000
   pub scores-small : (j : ℕ) → getD scores j 0 ≤ 65535
+
+-- x at `seat`, what stood from there up to `last` one place on, and the rest as it was
+unfoldable pub slid : ℕ → ℕ → ℕ → List ℕ → List ℕ
+slid seat last x l = take seat l ++ x ∷ (take (last - seat) (drop seat l) ++ drop (suc last) l)

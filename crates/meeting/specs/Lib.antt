@@ -1,3 +1,7 @@
 -- What the searches share.
 --     Contracts      the records that the functions' contracts cite
+--     Sliding        a value slid into the first k of a slice is put in there
+--     Keeping        an item into a shortlist of at most k
 pub mod Contracts
+pub mod Sliding
+pub mod Keeping

@@ -1,5 +1,7 @@
 // What the searches share: the three kinds of accesses, and an item's overall score, or a bound on it, under a rule
 // and weights.
+pub mod sliding;
+
 ghost use mathlib.Core.Path.{_≡_};
 ghost use Prim.Native.Nat.{_+_, _*_, _≤_, _<_};
 ghost use lib.ListN.{getD};

@@ -1,7 +1,6 @@
 -- The records that the contracts of `scored` cite.
 --     aheadOf                item d of score x stands before item e of score y
 --     Seated                 where an item belongs among the first `filled`
---     slid                   a value put in at a seat, what stood from there on moved one place on
 --     Keeps, Listing, Inserted       what an insertion asks; items in their order in both slices; what it promises
 --     Visitable, visitedOnce         what the visit of an item in every list asks; the tally afterwards
 --     Walkable, walkedTo             what a walk to a list's best position asks; where it ends
@@ -9,12 +8,12 @@
 --     Limited, limitAt               what a threshold asks; the joined scores at a position of each list
 -- Assumes nothing.
 use mathlib.Core.Path.{_≡_}
-use mathlib.Core.Bool.{Bool, true, false, cond, _&&_, _||_}
+use mathlib.Core.Bool.{Bool, true, false, _&&_, _||_}
 use mathlib.Core.List.{List, map}
 use Prim.Native.Nat.{ℕ, suc, _+_, _-_, _*_, _≤_, _<_}
-use lib.Dec.{leb, ltb, eqb}
+use lib.Dec.{ltb, eqb}
 use lib.ListN.{length, getD, take}
-use Rattle.model.specs.Words.{first, row, table, over}
+use Rattle.model.specs.Words.{first, table, over}
 use Rattle.model.specs.Given.{joined}
 use Rattle.model.specs.Searches.{ahead, insert, among}
 use Rattle.laws.specs.Ranking.{Sorted}
@@ -30,14 +29,6 @@ pub record Seated (d x filled : ℕ) (picks lows : List ℕ) (r : ℕ) : Type 0 
   pub seat-most : r ≤ filled
   pub before-rest : (j : ℕ) → r ≤ j → j < filled → aheadOf d x (getD picks j 0) (getD lows j 0) ≡ true
   pub behind-front : (j : ℕ) → suc j ≡ r → aheadOf d x (getD picks j 0) (getD lows j 0) ≡ false
-
--- entry i once what stood from j up to `last` is moved one place on
-unfoldable pub movedOn : ℕ → ℕ → List ℕ → ℕ → ℕ
-movedOn j last l i = cond (ltb j i && leb i last) (getD l (i - 1) 0) (getD l i 0)
-
--- v at `seat`, what stood from there up to `last` one place on, and the rest as it was
-unfoldable pub slid : ℕ → ℕ → ℕ → List ℕ → List ℕ
-slid seat last v l = row (λ i. cond (eqb seat i) v (movedOn seat last l i)) (length l)
 
 -- k places are lent in both slices, of which the first are filled
 pub record Keeps (k filled : ℕ) (picks lows : List ℕ) : Type 0 where

@@ -1,10 +1,9 @@
 // The shortlist in its two slices: items, and their scores, by score falling, then item rising.
+use meeting::sliding;
 ghost use mathlib.Core.Path.{_≡_};
-ghost use mathlib.Core.Bool.{_&&_, _||_};
-ghost use Prim.Native.Nat.{_+_, _≤_, _<_};
-ghost use lib.Dec.{ltb, eqb};
+ghost use Prim.Native.Nat.{_≤_};
 ghost use lib.ListN.{length};
-ghost use Rattle.scored.specs.Contracts.{aheadOf, Seated, slid, Keeps, Inserted};
+ghost use Rattle.scored.specs.Contracts.{aheadOf, Seated, Keeps, Inserted};
 
 // Item d of score x stands before item e of score y.
 fn ahead(d: u16, x: u32, e: u16, y: u32) -> bool
@@ -37,45 +36,6 @@ fn seat(d: u16, x: u32, filled: usize, picks: &[u16], lows: &[u32]) -> usize
     j
 }
 
-// Puts v at `seat`, after moving what stands from there up to `last` one place on; what stood at `last` goes.
-fn slide_items(list: &mut [u16], seat: usize, last: usize, v: u16)
-    requires { ⌜ (seat ≤ last) × (last < length (now list)) ⌝ }
-    ensures { λ _. ⌜ now (list .exit) ≡ slid seat last v (now (list .entry)) ⌝ }
-{
-    let mut j = last;
-    while seat < j {
-        let from = j - 1;
-        list[j] = list[from];
-        j = from;
-    }
-    list[j] = v;
-}
-
-// The same for scores.
-fn slide_scores(list: &mut [u32], seat: usize, last: usize, v: u32)
-    requires { ⌜ (seat ≤ last) × (last < length (now list)) ⌝ }
-    ensures { λ _. ⌜ now (list .exit) ≡ slid seat last v (now (list .entry)) ⌝ }
-{
-    let mut j = last;
-    while seat < j {
-        let from = j - 1;
-        list[j] = list[from];
-        j = from;
-    }
-    list[j] = v;
-}
-
-// Where the last of k places stands once one more item is put among `filled`.
-fn last_place(filled: usize, k: usize) -> usize
-    requires { ⌜ 1 ≤ k ⌝ }
-    ensures { λ r. ⌜ ((filled < k → r ≡ filled) × (k ≤ filled → r + 1 ≡ k)) ⌝ }
-{
-    if filled < k {
-        return filled;
-    }
-    k - 1
-}
-
 // Item d of score x into the first k, and how many there are then. Seat k means that it is not kept.
 pub fn keep(d: u16, x: u32, k: usize, filled: usize, picks: &mut [u16], lows: &mut [u32]) -> usize
     requires { ⌜ Keeps k filled (now picks) (now lows) ⌝ }
@@ -85,8 +45,8 @@ pub fn keep(d: u16, x: u32, k: usize, filled: usize, picks: &mut [u16], lows: &m
     if at == k {
         return filled;
     }
-    let last = last_place(filled, k);
-    slide_items(picks, at, last, d);
-    slide_scores(lows, at, last, x);
+    let last = sliding::last_place(filled, k);
+    sliding::slide_items(picks, at, last, d);
+    sliding::slide_scores(lows, at, last, x);
     last + 1
 }
