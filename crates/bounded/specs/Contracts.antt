@@ -3,7 +3,6 @@
 --     boundOf, metOf         an item's low or high after p rows; whether it is met
 --     heldOf, haltsOf        the first k met items below c, in the order; NRA's test after p rows
 --     Legible                what reading after p rows asks
---     aheadOf, Seated        the order on items with their lows and highs; where an item belongs among the first `filled`
 --     Spaced, Keeps          k places are lent for the shortlist; the first `filled` of them hold items
 --     Listing, Inserted      items in the order in the three slices; what an insertion promises of any such items
 --     Listed, Considered     the first k items below c after p rows, in the three slices; one item more
@@ -13,10 +12,10 @@
 --     Finished               what the run of NRA promises
 -- Assumes nothing.
 use mathlib.Core.Path.{_≡_}
-use mathlib.Core.Bool.{Bool, true, false, cond, _&&_, _||_}
+use mathlib.Core.Bool.{Bool, true, false, cond}
 use mathlib.Core.List.{List}
 use Prim.Native.Nat.{ℕ, suc, _+_, _*_, _≤_, _<_}
-use lib.Dec.{eqb, leb, ltb}
+use lib.Dec.{leb, ltb}
 use lib.ListN.{length, getD, take}
 use Rattle.model.specs.Words.{someBelow}
 use Rattle.model.specs.Given.{Poses, Query, joined}
@@ -69,17 +68,6 @@ pub record Legible (v : View) (p : ℕ) : Type 0 where
   pub scores-small : (j : ℕ) → getD (v .scores) j 0 ≤ 65535
 
 -- ---- the shortlist
--- item d with its low and high stands before item e with its own: by low falling, then high falling, then item rising
-unfoldable pub aheadOf : ℕ → ℕ → ℕ → ℕ → ℕ → ℕ → Bool
-aheadOf d low high e low′ high′ = ltb low′ low || (eqb low low′ && (ltb high′ high || (eqb high high′ && ltb d e)))
-
--- Item d belongs at r: before each that follows, and not before the one in front
-pub record Seated (d low high filled : ℕ) (picks lows highs : List ℕ) (r : ℕ) : Type 0 where
-  pub seat-most : r ≤ filled
-  pub before-rest : (j : ℕ) → r ≤ j → j < filled
-      → aheadOf d low high (getD picks j 0) (getD lows j 0) (getD highs j 0) ≡ true
-  pub behind-front : (j : ℕ) → suc j ≡ r → aheadOf d low high (getD picks j 0) (getD lows j 0) (getD highs j 0) ≡ false
-
 pub record Spaced (k : ℕ) (picks lows highs : List ℕ) : Type 0 where
   pub k-least : 1 ≤ k
   pub picks-long : k ≤ length picks

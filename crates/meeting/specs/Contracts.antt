@@ -5,13 +5,14 @@
 --     Shown, Ran           the shortlist's slices; what the run of any search promises of the four slices that it writes
 --     readAt, unread       an item's local score as the slices have it, and what stands for one that is not read
 --     Located, Small       what the score of an item asks
+--     aheadOf, Seated      the order on items with their lows and highs; where an item belongs among the first `filled`
 --     slid                 a value put in at a seat, what stood from there on moved one place on
 -- Assumes nothing.
 use mathlib.Core.Path.{_≡_}
-use mathlib.Core.Bool.{Bool, cond}
+use mathlib.Core.Bool.{Bool, true, false, cond, _&&_, _||_}
 use mathlib.Core.List.{List, _∷_, _++_, map}
 use Prim.Native.Nat.{ℕ, suc, _+_, _-_, _*_, _≤_, _<_}
-use lib.Dec.{leb}
+use lib.Dec.{eqb, leb, ltb}
 use lib.ListN.{length, getD, take, drop}
 use Rattle.model.specs.Words.{over}
 use Rattle.model.specs.Given.{Poses, Query}
@@ -76,6 +77,18 @@ pub record Located (m n d depth : ℕ) (scores work : List ℕ) : Type 0 where
 pub record Small (weights scores : List ℕ) : Type 0 where
   pub weights-small : (i : ℕ) → getD weights i 0 ≤ 1000
   pub scores-small : (j : ℕ) → getD scores j 0 ≤ 65535
+
+-- ---- the shortlist
+-- item d with its low and high stands before item e with its own: by low falling, then high falling, then item rising
+unfoldable pub aheadOf : ℕ → ℕ → ℕ → ℕ → ℕ → ℕ → Bool
+aheadOf d low high e low′ high′ = ltb low′ low || (eqb low low′ && (ltb high′ high || (eqb high high′ && ltb d e)))
+
+-- Item d belongs at r: before each that follows, and not before the one in front
+pub record Seated (d low high filled : ℕ) (picks lows highs : List ℕ) (r : ℕ) : Type 0 where
+  pub seat-most : r ≤ filled
+  pub before-rest : (j : ℕ) → r ≤ j → j < filled
+      → aheadOf d low high (getD picks j 0) (getD lows j 0) (getD highs j 0) ≡ true
+  pub behind-front : (j : ℕ) → suc j ≡ r → aheadOf d low high (getD picks j 0) (getD lows j 0) (getD highs j 0) ≡ false
 
 -- x at `seat`, what stood from there up to `last` one place on, and the rest as it was
 unfoldable pub slid : ℕ → ℕ → ℕ → List ℕ → List ℕ

@@ -1,5 +1,6 @@
 // What the searches share: the three kinds of accesses, and an item's overall score, or a bound on it, under a rule
 // and weights.
+pub mod seats;
 pub mod sliding;
 
 ghost use mathlib.Core.Path.{_≡_};

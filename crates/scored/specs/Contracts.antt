@@ -1,6 +1,4 @@
 -- The records that the contracts of `scored` cite.
---     aheadOf                item d of score x stands before item e of score y
---     Seated                 where an item belongs among the first `filled`
 --     Keeps, Listing, Inserted       what an insertion asks; items in their order in both slices; what it promises
 --     Visitable, visitedOnce         what the visit of an item in every list asks; the tally afterwards
 --     Walkable, walkedTo             what a walk to a list's best position asks; where it ends
@@ -8,9 +6,9 @@
 --     Limited, limitAt               what a threshold asks; the joined scores at a position of each list
 -- Assumes nothing.
 use mathlib.Core.Path.{_≡_}
-use mathlib.Core.Bool.{Bool, true, false, _&&_, _||_}
+use mathlib.Core.Bool.{false, _&&_}
 use mathlib.Core.List.{List, map}
-use Prim.Native.Nat.{ℕ, suc, _+_, _-_, _*_, _≤_, _<_}
+use Prim.Native.Nat.{ℕ, _+_, _-_, _*_, _≤_, _<_}
 use lib.Dec.{ltb, eqb}
 use lib.ListN.{length, getD, take}
 use Rattle.model.specs.Words.{first, table, over}
@@ -19,16 +17,6 @@ use Rattle.model.specs.Searches.{ahead, insert, among}
 use Rattle.laws.specs.Ranking.{Sorted}
 use Rattle.laws.specs.Lookups.{once}
 use Rattle.meeting.specs.Contracts.{Small}
-
--- item d of score x stands before item e of score y: by score falling, then item rising
-unfoldable pub aheadOf : ℕ → ℕ → ℕ → ℕ → Bool
-aheadOf d x e y = ltb y x || (eqb x y && ltb d e)
-
--- Item d of score x belongs at r: before each that follows, and not before the one in front
-pub record Seated (d x filled : ℕ) (picks lows : List ℕ) (r : ℕ) : Type 0 where
-  pub seat-most : r ≤ filled
-  pub before-rest : (j : ℕ) → r ≤ j → j < filled → aheadOf d x (getD picks j 0) (getD lows j 0) ≡ true
-  pub behind-front : (j : ℕ) → suc j ≡ r → aheadOf d x (getD picks j 0) (getD lows j 0) ≡ false
 
 -- k places are lent in both slices, of which the first are filled
 pub record Keeps (k filled : ℕ) (picks lows : List ℕ) : Type 0 where

@@ -1,11 +1,11 @@
--- `bounded::shortlist::ahead` meets its contract: each way out is one case of the order.
+-- `meeting::seats::ahead` meets its contract: each way out is one case of the order.
 -- Assumes nothing.
 use mathlib.Core.Path.{_≡_}
 use native.Mathlib.Omega.{arith}
 use borrow.Author.Tests.{lt-ltb, le-ltb, eq-eqb, ne-eqb}
-use Rattle.bounded.specs.Contracts.{aheadOf}
-use Rattle.bounded.proofs.shortlist.ahead.Statement.{statement}
-use Rattle.bounded.proofs.shortlist.ahead.Tie as tie
+use Rattle.meeting.specs.Contracts.{aheadOf}
+use Rattle.meeting.proofs.seats.ahead.Statement.{statement}
+use Rattle.meeting.proofs.seats.ahead.Tie as tie
 
 returns : tie.Need-returns
 unfolding aheadOf

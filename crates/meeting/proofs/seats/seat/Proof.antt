@@ -1,4 +1,4 @@
--- `bounded::shortlist::seat` meets its contract. The loop's invariant: the item stands before each from j on; the measure is j.
+-- `meeting::seats::seat` meets its contract. The loop's invariant: the item stands before each from j on; the measure is j.
 -- Assumes nothing.
 use mathlib.Core.Path.{_≡_, sym, _∙_}
 use mathlib.Core.Bool.{true}
@@ -7,9 +7,9 @@ use Prim.Native.Nat.{ℕ, _-_, _≤_, _<_}
 use native.Mathlib.Nat.{eq-or-lt-of-le}
 use native.Mathlib.Omega.{arith}
 use lib.ListN.{getD}
-use Rattle.bounded.specs.Contracts.{aheadOf}
-use Rattle.bounded.proofs.shortlist.seat.Statement.{statement}
-use Rattle.bounded.proofs.shortlist.seat.Tie as tie
+use Rattle.meeting.specs.Contracts.{aheadOf}
+use Rattle.meeting.proofs.seats.seat.Statement.{statement}
+use Rattle.meeting.proofs.seats.seat.Tie as tie
 
 abbrev Inv-loop : tie.InvT-loop
 Inv-loop d low high filled picks lows highs j₀ j =
@@ -75,7 +75,6 @@ loop-again : tie.Need-loop-again Inv-loop μ-loop
 loop-again c =
     let at-loop = c .before .before .before .before .before .before in
     let after-ahead = c .before in
-    let at-loop = at-loop in
     let j = at-loop .loop .j in
     let here = sym (after-ahead .ahead .ensures) ∙ c .if1 .taken in (
       omega (arith, at-loop .loop .inv .0),
@@ -90,7 +89,6 @@ returns : tie.Need-returns Inv-loop μ-loop
 returns c =
     let at-loop = c .before .before .before .before .before .before in
     let after-ahead = c .before in
-    let at-loop = at-loop in
     let j = at-loop .loop .j in
     let here = sym (after-ahead .ahead .ensures) ∙ c .if1 .left in
     record {
@@ -102,7 +100,6 @@ returns c =
 returns-2 : tie.Need-returns-2 Inv-loop μ-loop
 returns-2 c =
     let at-loop = c .before in
-    let at-loop = at-loop in
     record {
       seat-most = at-loop .loop .inv .0;
       before-rest = at-loop .loop .inv .1;
