@@ -1,7 +1,7 @@
 -- "Accepted" is neither empty nor narrower than the page: what is asked of a call is exactly that its number is 0.
 --     valid-lists            valid lists pass every test of the list check
 --     accepted-exactly       a call's number is 0 exactly where k, rule, weights, slices and lists are right
---     worked, worked-accepted        A, B, C, D and E are accepted
+--     Worked, worked-accepted        A, B, C, D and E are accepted
 -- Assumes nothing.
 use mathlib.Core.Path.{_≡_, refl, sym, ap, _∙_}
 use mathlib.Core.Bool.{Bool, true, false, _&&_}
