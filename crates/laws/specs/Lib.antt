@@ -20,6 +20,7 @@
 --     Cases      the worked cases as a search is lent them, and how a table of answers is tested
 --     SixteenRows, OtherCases, RefusedCases      the tables
 --     RecordCases    the two records and the chosen weights on small inputs, computed
+--     ProgramCases   the previewer's program on small inputs, computed
 pub mod Tests
 pub mod Lists
 pub mod Verdicts
@@ -43,3 +44,4 @@ pub mod SixteenRows
 pub mod OtherCases
 pub mod RefusedCases
 pub mod RecordCases
+pub mod ProgramCases

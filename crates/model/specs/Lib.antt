@@ -6,6 +6,7 @@
 --     Refusals   the numbers 1 to 9 and their order, for a search and for the list check by itself
 --     Answers    what a search and the list check give back, and what each lent slice holds afterwards
 --     Records    the query record and the list record, their refusals and their order, the chosen weights
+--     Program    the previewer's program: the text that it prints for its input
 -- Inside, lists, positions and items count from 0. Where the page counts from one, in an answer, in a refusal and in the
 -- work slice, one is added there and nowhere else.
 pub mod Words
@@ -15,3 +16,4 @@ pub mod Searches
 pub mod Refusals
 pub mod Answers
 pub mod Records
+pub mod Program
