@@ -1,15 +1,13 @@
 -- What a search promises of its answer and of the five slices that it may write.
 --     allTold                the accesses of an answer, of whatever kind
 --     RefusedBy, Tells       an answer from a refusal, and from what a run has done
---     Did, OnlySorted        what a run has done: the row at which it stops and its accesses; the same for NRA, by its rows
 --     Searched               what each of the four searches promises, at every input
 -- Assumes nothing.
 use mathlib.Core.Path.{_≡_}
 use mathlib.Core.List.{List}
-use Prim.Native.Nat.{ℕ, _+_, _*_}
+use Prim.Native.Nat.{ℕ, _+_}
 use Rattle.model.specs.Given.{Poses, Query}
-use Rattle.model.specs.Searches.{Search, rows}
-use Rattle.model.specs.Accesses.{sorted, direct, random, made}
+use Rattle.model.specs.Searches.{Search}
 use Rattle.model.specs.Refusals.{Lent}
 use Rattle.model.specs.Answers.{answer, slices}
 use Rattle.lists.specs.declared.Checked.{Checked}
@@ -39,20 +37,6 @@ pub record Tells (d : Done) (a : Answer) : Type 0 where
   pub sorted-are : a .sorted .0 ≡ d .sorted .0
   pub direct-are : a .direct .0 ≡ d .direct .0
   pub random-are : a .random .0 ≡ d .random .0
-
--- The row or round at which a search stops, and its accesses until then by kind
-pub record Did (s : Poses) (k : ℕ) (r : Search) (d : Done) : Type 0 where
-  pub rows-are : d .rows ≡ rows s k r
-  pub sorted-are : d .sorted .0 ≡ made sorted (r .accesses (d .rows))
-  pub direct-are : d .direct .0 ≡ made direct (r .accesses (d .rows))
-  pub random-are : d .random .0 ≡ made random (r .accesses (d .rows))
-
--- so many rows, an access of each list in each, all of them sorted
-pub record OnlySorted (m p : ℕ) (d : Done) : Type 0 where
-  pub rows-are : d .rows ≡ p
-  pub sorted-are : d .sorted .0 ≡ p * m
-  pub direct-are : d .direct .0 ≡ 0
-  pub random-are : d .random .0 ≡ 0
 
 -- The search r over what is lent, refused or not: the answer's seven numbers, and each slice as the search leaves it, are the model's
 pub record Searched (r : Poses → Query → Search) (l : Lent) (a : Answer) (picks lows highs tally work : List ℕ) : Type 0 where

@@ -19,7 +19,7 @@ use Rattle.laws.specs.Verdicts.{told-zero}
 use Rattle.searches.specs.declared.Answer.{Answer}
 use Rattle.meeting.specs.Contracts.{Ran}
 use Rattle.searches.specs.Answered.{Searched}
-use Rattle.searches.specs.Shapes.{numbered-search, Accepts, accepts}
+use Rattle.admission.specs.Shapes.{numbered-search, Accepts, accepts}
 use Rattle.searches.specs.Shortlists.{items-of, lows-of, highs-of}
 
 -- an answer is its seven numbers

@@ -1,19 +1,14 @@
 // The four searches.
-mod admission;
-
 use lists::Checked;
 use meeting::Direct;
 use meeting::Done;
 use meeting::Random;
 use meeting::Sorted;
 ghost use mathlib.Core.Path.{_≡_};
-ghost use Prim.Native.Nat.{ℕ, _≤_};
-ghost use lib.ListN.{length, take};
-ghost use Rattle.model.specs.Words.{over};
 ghost use Rattle.model.specs.Searches.{TA, BPA, BPA2, NRA};
-ghost use Rattle.scored.specs.Run.{searchBy};
-ghost use Rattle.searches.specs.Contracts.{lentWith};
-ghost use Rattle.searches.specs.Answered.{allTold, RefusedBy, Tells, OnlySorted, Searched};
+ghost use Rattle.running.specs.Contracts.{searchAt};
+ghost use Rattle.admission.specs.Contracts.{lentWith};
+ghost use Rattle.searches.specs.Answered.{allTold, RefusedBy, Tells, Searched};
 
 // What a search gives back beside the slices: 0 or the number of a refusal with its list and position, the rows
 // or rounds, and the accesses by kind.
@@ -64,34 +59,8 @@ fn found(d: Done) -> Answer
     }
 }
 
-// Whole scores are known, so the highs are the lows.
-fn repeat_lows(k: usize, lows: &[u32], highs: &mut [u32])
-    requires { ⌜ (k ≤ length (now lows)) × (k ≤ length (now highs)) ⌝ }
-    ensures { λ _. ⌜ now (highs .exit) ≡ over (take k (now (lows .entry))) (now (highs .entry)) ⌝ }
-{
-    let mut i = 0;
-    while i < k {
-        highs[i] = lows[i];
-        i += 1;
-    }
-}
-
-// NRA makes one sorted access of each list in each row, and no other.
-fn only_sorted(m: usize, rows: u32) -> Done
-    requires { ⌜ (m ≤ 8) × (rows ≤ 1024) ⌝ }
-    ensures { λ r. ⌜ OnlySorted m rows r ⌝ }
-{
-    let lists = m as u32;
-    Done {
-        rows,
-        sorted: Sorted(rows * lists),
-        direct: Direct(0),
-        random: Random(0),
-    }
-}
-
-// TA, BPA or BPA2, by its number: the tests, the run, and the highs.
-fn by_score(
+// The search of a number (`running::TA`, `BPA`, `BPA2`; any other is NRA): the tests, then the run.
+pub fn search(
     which: u8,
     m: usize,
     n: usize,
@@ -106,8 +75,7 @@ fn by_score(
     tally: &mut [u8],
     work: &mut [u16],
 ) -> Answer
-    requires { ⌜ which ≤ 2 ⌝ }
-    ensures { λ r. ⌜ Searched (searchBy which) (lentWith m n rule k (now (weights .entry)) (now (items .entry)) (now (scores .entry)) (now (picks .entry)) (now (lows .entry)) (now (highs .entry)) (now (tally .entry)) (now (work .entry))) r (now (picks .exit)) (now (lows .exit)) (now (highs .exit)) (now (tally .exit)) (now (work .exit)) ⌝ }
+    ensures { λ r. ⌜ Searched (searchAt which) (lentWith m n rule k (now (weights .entry)) (now (items .entry)) (now (scores .entry)) (now (picks .entry)) (now (lows .entry)) (now (highs .entry)) (now (tally .entry)) (now (work .entry))) r (now (picks .exit)) (now (lows .exit)) (now (highs .exit)) (now (tally .exit)) (now (work .exit)) ⌝ }
 {
     let tested = admission::admit(
         m,
@@ -127,21 +95,21 @@ fn by_score(
         return refused(tested);
     }
     let numbers = admission::decode(m, weights);
-    let done = scored::run(
+    let done = running::run(
         which,
         m,
         n,
+        items,
+        scores,
         rule,
         numbers,
         k,
-        items,
-        scores,
         picks,
         lows,
+        highs,
         tally,
         work,
     );
-    repeat_lows(k, lows, highs);
     found(done)
 }
 
@@ -162,8 +130,8 @@ pub fn ta(
 ) -> Answer
     ensures { λ r. ⌜ Searched TA (lentWith m n rule k (now (weights .entry)) (now (items .entry)) (now (scores .entry)) (now (picks .entry)) (now (lows .entry)) (now (highs .entry)) (now (tally .entry)) (now (work .entry))) r (now (picks .exit)) (now (lows .exit)) (now (highs .exit)) (now (tally .exit)) (now (work .exit)) ⌝ }
 {
-    by_score(
-        scored::TA,
+    search(
+        running::TA,
         m,
         n,
         items,
@@ -196,8 +164,8 @@ pub fn bpa(
 ) -> Answer
     ensures { λ r. ⌜ Searched BPA (lentWith m n rule k (now (weights .entry)) (now (items .entry)) (now (scores .entry)) (now (picks .entry)) (now (lows .entry)) (now (highs .entry)) (now (tally .entry)) (now (work .entry))) r (now (picks .exit)) (now (lows .exit)) (now (highs .exit)) (now (tally .exit)) (now (work .exit)) ⌝ }
 {
-    by_score(
-        scored::BPA,
+    search(
+        running::BPA,
         m,
         n,
         items,
@@ -230,8 +198,8 @@ pub fn bpa2(
 ) -> Answer
     ensures { λ r. ⌜ Searched BPA2 (lentWith m n rule k (now (weights .entry)) (now (items .entry)) (now (scores .entry)) (now (picks .entry)) (now (lows .entry)) (now (highs .entry)) (now (tally .entry)) (now (work .entry))) r (now (picks .exit)) (now (lows .exit)) (now (highs .exit)) (now (tally .exit)) (now (work .exit)) ⌝ }
 {
-    by_score(
-        scored::BPA2,
+    search(
+        running::BPA2,
         m,
         n,
         items,
@@ -264,37 +232,19 @@ pub fn nra(
 ) -> Answer
     ensures { λ r. ⌜ Searched NRA (lentWith m n rule k (now (weights .entry)) (now (items .entry)) (now (scores .entry)) (now (picks .entry)) (now (lows .entry)) (now (highs .entry)) (now (tally .entry)) (now (work .entry))) r (now (picks .exit)) (now (lows .exit)) (now (highs .exit)) (now (tally .exit)) (now (work .exit)) ⌝ }
 {
-    let tested = admission::admit(
+    search(
+        running::NRA,
         m,
         n,
+        items,
+        scores,
         rule,
         k,
         weights,
-        items,
-        scores,
-        picks.len(),
-        lows.len(),
-        highs.len(),
-        tally.len(),
-        work,
-    );
-    if tested.number != 0 {
-        return refused(tested);
-    }
-    let numbers = admission::decode(m, weights);
-    let rows = bounded::run_nra(
-        m,
-        n,
-        items,
-        scores,
-        rule,
-        numbers,
-        k,
         picks,
         lows,
         highs,
         tally,
         work,
-    );
-    found(only_sorted(m, rows))
+    )
 }

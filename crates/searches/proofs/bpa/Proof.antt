@@ -1,15 +1,12 @@
 -- `searches::bpa` meets its contract: it is the search of its number.
 -- Assumes nothing.
-use native.Mathlib.Omega.{arith}
 use borrow.Author.Needs.{needs}
-use Rattle.model.specs.Searches.{BPA}
-use Rattle.scored.specs.Run.{searchBy, search-bpa}
-use Rattle.searches.proofs.Answering.{searched-as}
+use Rattle.running.specs.Contracts.{searchAt}
 use Rattle.searches.proofs.bpa.Statement.{statement}
 use Rattle.searches.proofs.bpa.Tie as tie
 
-by-score-requires : tie.Need-by-score-requires
-by-score-requires c κs = omega arith
+search-requires : tie.Need-search-requires
+search-requires c κs = tt
 
 same-length : tie.Need-same-length
 same-length c = search needs
@@ -27,15 +24,16 @@ same-length-5 : tie.Need-same-length-5
 same-length-5 c = search needs
 
 returns : tie.Need-returns
+unfolding searchAt
 returns c =
-    let after-by-score = c .before .before .before .before .before .before .before .before .before .before in
-    searched-as (searchBy 1) BPA _ _ _ _ _ _ _ search-bpa (after-by-score .by-score .ensures)
+    let after-search = (c .before .before .before .before .before .before .before .before .before .before) in
+    after-search .search .ensures
 
 pub bpa-spec : {M : Type 1} → statement M
 bpa-spec =
     tie.close
     (tie.spec
-    by-score-requires
+    search-requires
     same-length
     same-length-2
     same-length-3

@@ -1,0 +1,3 @@
+-- Laws that the proofs of this crate cite.
+--     Tested         what `admit` promises, in its two ways
+mod Tested
