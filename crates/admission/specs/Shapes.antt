@@ -8,13 +8,13 @@
 --     check-shape        a search's shape that passes is one that the list check lets pass
 --     Accepts, accepts   what an accepted call is: k, the weights and the lists are right
 -- Assumes nothing.
-use mathlib.Core.Path.{_≡_, refl, sym, ap, _∙_}
+use mathlib.Core.Path.{_≡_, refl, sym, _∙_}
 use mathlib.Core.Bool.{Bool, true, false, not, _||_}
 use mathlib.Core.List.{List}
-use Prim.Native.Nat.{ℕ, zero, suc, _+_, _*_, _≤_, _<_}
+use Prim.Native.Nat.{ℕ, zero, suc, _+_, _*_, _≤_}
 use native.Mathlib.Omega.{arith}
 use lib.Dec.{eqb, ltb}
-use lib.ListN.{length, getD, List·getD-eq-default}
+use lib.ListN.{length, List·getD-eq-default}
 use borrow.Author.Tests.{ltb-true, ltb-false, le-ltb, eqb-true, eqb-false, not-false}
 use Rattle.model.specs.Words.{someBelow}
 use Rattle.model.specs.Refusals.{Verdict, accepted, refused, _when_, _then_, Lent, posesOf, pair, weightOf, wrongSize, wrongK, wrongRule, wrongWeights, short, noLists, inLists, searchShape, searchVerdict, checkShape, checkVerdict}

@@ -7,22 +7,22 @@
 --     Passed, passed   the three tests at a position, once they are passed
 --     list-distinct, stands, noted-place     of one list that passes: its items are distinct, each stands at its place, its note is that
 -- Assumes nothing.
-use mathlib.Core.Path.{_≡_, refl, sym, ap, _∙_}
-use mathlib.Core.Bool.{Bool, true, false, not, _&&_, _||_}
+use mathlib.Core.Path.{_≡_, refl, sym, _∙_}
+use mathlib.Core.Bool.{Bool, false, not, _&&_}
 use mathlib.Core.Logic.{⊎-elim}
 use mathlib.Core.List.{List}
 use Prim.Native.Nat.{ℕ, zero, suc, _+_, _-_, _*_, _≤_, _<_}
-use native.Mathlib.Nat.{not-suc-le-zero, eq-or-lt-of-le, mul-le-mul}
+use native.Mathlib.Nat.{eq-or-lt-of-le, mul-le-mul}
 use native.Mathlib.Numerals.{sub-one}
 use native.Mathlib.Omega.{arith}
 use lib.Dec.{eqb, leb, ltb}
 use lib.ListN.{length, getD}
-use borrow.Author.Tests.{eqb-true, eqb-false, eq-eqb, ne-eqb, leb-true, leb-false, ltb-true, ltb-false, lt-ltb, not-false}
+use borrow.Author.Tests.{eqb-true, eq-eqb, leb-true, leb-false, ltb-false, lt-ltb, not-false}
 use Rattle.model.specs.Words.{first, over, within}
 use Rattle.model.specs.Given.{Poses, item, score, place}
 use Rattle.model.specs.Refusals.{Verdict, accepted, refused, _when_, _then_, wrongSize, short, noLists, notItem, stoodEarlier, rises, standing, fault, inList, inLists, checkShape, checkVerdict}
 use Rattle.model.specs.Answers.{places}
-use Rattle.laws.specs.Tests.{by-cases, below-suc, or-no, and-yes, some-not, first-within, first-passes, first-is}
+use Rattle.laws.specs.Tests.{or-no, and-yes, some-not, first-within, first-passes, first-is}
 use Rattle.laws.specs.Lists.{table-length, table-at, table-room, over-length, over-at}
 use Rattle.laws.specs.Verdicts.{accepted≢refused, when-passes, then-first, then-second, first-refusal-none}
 use Rattle.laws.specs.Marks.{noted, Distinct, each-found, noted-last}

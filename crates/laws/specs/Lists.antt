@@ -12,13 +12,15 @@
 --     over-length, over-at               a slice written over keeps its length; what stands in its first part
 --     over-map-at, over-beyond           the same of a mapped list; what stands past the first part
 --     over-more                          after l, as many entries as ys has
+--     over-over, over-taken              a list written over one that is as long; the first part read back
+--     zeros-at                           an entry of zeros, or past their end
 -- Assumes nothing.
 use mathlib.Core.Path.{_≡_, refl, sym, ap, _∙_}
 use mathlib.Core.Bool.{Bool, true, false, cond, _&&_, true≢false}
 use mathlib.Core.Logic.{_≢_}
 use mathlib.Core.List.{List, [], _∷_, _++_, append-assoc, map}
 use Prim.Native.Nat.{ℕ, zero, suc, _+_, _-_, _*_, _≤_, _<_}
-use native.Mathlib.Nat.{add-zero, zero-add, zero-mul, suc-mul, mul-le-mul-right, not-suc-le-zero, le-of-suc-le-suc}
+use native.Mathlib.Nat.{zero-mul, suc-mul, mul-le-mul-right, not-suc-le-zero, le-of-suc-le-suc}
 use native.Mathlib.Numerals.{add-one}
 use native.Mathlib.Omega.{arith}
 use lib.Dec.{eqb, ltb}
@@ -244,3 +246,17 @@ over-more l ys s a e la le =
     let front : take a (l ++ drop (length l) s) ≡ l = rw (← la) (take-append-seam l (drop (length l) s)) in
     let rest : drop a (l ++ drop (length l) s) ≡ drop (length l) s = rw (← la) (drop-append-seam l (drop (length l) s)) in
     rw (front, rest, size, drop-drop, length-append) (sym (append-assoc l ys (drop (length l + length ys) s)))
+
+pub over-over : (l k s : List ℕ) → length l ≡ length k → over l (over k s) ≡ over l s
+unfolding over
+over-over l k s e = rw e (ap (λ (t : List ℕ). l ++ t) (drop-append-seam k (drop (length k) s)))
+
+pub over-taken : (l s : List ℕ) (k : ℕ) → length l ≡ k → take k (over l s) ≡ l
+unfolding over
+over-taken l s k e = rw (← e) (take-append-seam l (drop (length l) s))
+
+-- ---- zeros
+pub zeros-at : (n i : ℕ) → _≡_ {A = ℕ} (getD (replicate n 0) i 0) 0
+zeros-at zero i = refl
+zeros-at (suc n) zero = refl
+zeros-at (suc n) (suc i) = zeros-at n i

@@ -3,18 +3,17 @@
 --     lookup-times                       a lookup visits, in each list, the place of the item that it finds, once, and nothing else
 --     lookup-made-own, lookup-made-other, lookup-made-random      one access of its own kind, none of the other, m - 1 random ones
 -- Assumes nothing.
-use mathlib.Core.Path.{_≡_, refl, sym, ap, _∙_}
-use mathlib.Core.Bool.{Bool, true, false, cond, not, _&&_, _||_, and-false}
+use mathlib.Core.Path.{_≡_, refl, sym}
+use mathlib.Core.Bool.{Bool, true, false, cond, not, _&&_}
 use mathlib.Core.List.{List, [], _∷_, _++_}
-use Prim.Native.Nat.{ℕ, zero, suc, _+_, _-_, _*_, _≤_, _<_}
-use native.Mathlib.Nat.{not-suc-le-zero}
+use Prim.Native.Nat.{ℕ, zero, suc, _+_, _-_, _<_}
 use native.Mathlib.Omega.{arith}
-use lib.Dec.{eqb, leb, ltb}
+use lib.Dec.{eqb, ltb}
 use borrow.Author.Tests.{eqb-true, eqb-false, eq-eqb, ne-eqb, ltb-true, ltb-false, lt-ltb, le-ltb}
-use Rattle.model.specs.Words.{count, someBelow}
+use Rattle.model.specs.Words.{count}
 use Rattle.model.specs.Given.{Poses, item, place}
-use Rattle.model.specs.Accesses.{Kind, sorted, direct, random, Access, access, sameKind, randoms, lookup, times, visited, met, made}
-use Rattle.laws.specs.Tests.{by-cases, below-suc}
+use Rattle.model.specs.Accesses.{Kind, random, Access, access, sameKind, randoms, lookup, times, made}
+use Rattle.laws.specs.Tests.{by-cases}
 use Rattle.laws.specs.Lists.{count-append}
 use Rattle.laws.specs.Accepted.{Valid}
 

@@ -5,7 +5,6 @@
 use mathlib.Core.Path.{_≡_, refl}
 use mathlib.Core.Bool.{true}
 use mathlib.Core.List.{List, [], _∷_, List·Memᴰ}
-use Prim.Native.Nat.{ℕ}
 use Rattle.model.specs.Searches.{TA, BPA, BPA2, NRA}
 use Rattle.model.specs.Answers.{answer}
 use Rattle.laws.specs.Opened.{searches-opened}

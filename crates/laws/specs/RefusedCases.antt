@@ -7,7 +7,7 @@
 -- The values were worked out from document 01 by `reference/worked_rows.py`, which shares nothing with the definitions.
 -- Assumes nothing.
 use mathlib.Core.Path.{_≡_, refl}
-use mathlib.Core.Bool.{Bool, true, false, _&&_}
+use mathlib.Core.Bool.{Bool, true, _&&_}
 use mathlib.Core.List.{List, [], _∷_, _++_, List·Memᴰ}
 use Prim.Native.Nat.{ℕ, _+_, _*_}
 use lib.ListN.{replicate, take}
@@ -16,7 +16,7 @@ use Rattle.model.specs.Searches.{Search, TA, BPA, BPA2, NRA}
 use Rattle.model.specs.Refusals.{Lent, posesOf}
 use Rattle.model.specs.Answers.{Told, checked, checkedWork, Slices, slices, answer}
 use Rattle.laws.specs.Opened.{searches-opened}
-use Rattle.laws.specs.Cases.{Entry, _at_, lending, listsB, caseA, caseE, Row, asked, refuses, sameNumbers, everyRight, rows-hold, cases-opened}
+use Rattle.laws.specs.Cases.{Entry, _at_, lending, listsB, caseA, Row, asked, refuses, sameNumbers, everyRight, rows-hold, cases-opened}
 
 -- ---- case A, damaged
 -- "an item is n or more": list 2, position 3 holds item 5

@@ -6,17 +6,17 @@
 --     list-refused, list-passed                  what `note_list` promises, from a refusal and from a whole walk
 -- Assumes nothing.
 use mathlib.Core.Path.{_≡_, refl, sym, ap, _∙_}
-use mathlib.Core.Bool.{Bool, true, false, not, _&&_}
+use mathlib.Core.Bool.{true, false}
 use mathlib.Core.List.{List}
-use Prim.Native.Nat.{ℕ, zero, suc, _+_, _-_, _*_, _≤_, _<_}
+use Prim.Native.Nat.{ℕ, zero, suc, _+_, _-_, _≤_, _<_}
 use native.Mathlib.Numerals.{add-one, sub-one}
 use native.Mathlib.Omega.{arith}
-use lib.Dec.{leb, ltb, eqb}
-use lib.ListN.{length, getD, set, replicate}
+use lib.Dec.{ltb, eqb}
+use lib.ListN.{getD, set, replicate}
 use borrow.Author.Tests.{le-leb, lt-leb, lt-ltb, le-ltb, eq-eqb, ne-eqb, not-false, not-true}
 use Rattle.model.specs.Words.{row}
 use Rattle.model.specs.Given.{Poses, item, score, place}
-use Rattle.model.specs.Refusals.{Verdict, accepted, refused, _when_, _then_, notItem, stoodEarlier, rises, standing, fault, firstRefusal, inList}
+use Rattle.model.specs.Refusals.{Verdict, accepted, refused, notItem, stoodEarlier, rises, standing, fault, firstRefusal, inList}
 use Rattle.model.specs.Answers.{told}
 use Rattle.laws.specs.Lists.{row-at, row-same, row-zeros}
 use Rattle.laws.specs.Verdicts.{accepted≢refused, first-refusal-at}

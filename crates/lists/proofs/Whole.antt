@@ -2,16 +2,15 @@
 --     shape-1, shape-5-items, shape-5-scores, shape-6, shape-passes     the tests 1, 5, 6, from the comparisons that the code makes
 --     refused-by-shape, accepted-lists, refused-lists                   what `check_lists` promises, in each of its three ways
 -- Assumes nothing.
-use mathlib.Core.Path.{_≡_, refl, sym, ap, _∙_}
-use mathlib.Core.Bool.{Bool, true, false, _||_, or-true}
+use mathlib.Core.Path.{_≡_, sym, ap, _∙_}
+use mathlib.Core.Bool.{true, false}
 use mathlib.Core.List.{List, _++_}
 use Prim.Native.Nat.{ℕ, _*_, _≤_, _<_}
-use native.Mathlib.Omega.{arith}
 use lib.ListN.{length, drop, replicate, length-replicate}
 use borrow.Author.Tests.{lt-ltb, le-ltb}
 use Rattle.model.specs.Words.{over}
 use Rattle.model.specs.Given.{Poses}
-use Rattle.model.specs.Refusals.{Verdict, accepted, refused, wrongSize, short, noLists, inLists, checkShape, checkVerdict}
+use Rattle.model.specs.Refusals.{accepted, refused, wrongSize, short, noLists, inLists, checkShape, checkVerdict}
 use Rattle.model.specs.Answers.{Told, told, workChecked, workAfter, checked, checkedWork}
 use Rattle.laws.specs.Verdicts.{by-verdict, numbered-lists, told-zero}
 use Rattle.lists.specs.declared.Checked.{Checked}

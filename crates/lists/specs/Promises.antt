@@ -8,12 +8,10 @@
 -- `Valid` and `Placed` are of `laws`: each entry is an item; place and item undo each other; each item has a place; scores never
 -- rise over any distance; what the work slice holds.
 -- Assumes nothing.
-use mathlib.Core.Path.{_≡_, refl, sym, ap, _∙_}
+use mathlib.Core.Path.{_≡_, sym, ap, _∙_}
 use mathlib.Core.List.{List}
 use mathlib.Core.Logic.{_↔_}
-use Prim.Native.Nat.{ℕ, _*_, _≤_}
-use native.Mathlib.Omega.{arith}
-use lib.ListN.{length}
+use Prim.Native.Nat.{ℕ}
 use Rattle.model.specs.Words.{over}
 use Rattle.model.specs.Given.{Poses}
 use Rattle.model.specs.Refusals.{Verdict, accepted, inLists, checkShape, checkVerdict}

@@ -5,7 +5,7 @@
 --     entryItem, entryScore              an entry of a list record
 --     itemsAfter, scoresAfter            the two slices as the read of a list record leaves them
 --     Part, chosen, partOf               the weights chosen, as a part of the one record or the other
-use mathlib.Core.Bool.{Bool, cond, not, _||_}
+use mathlib.Core.Bool.{cond, not, _||_}
 use mathlib.Core.List.{List}
 use Prim.Native.Nat.{ℕ, _+_, _-_, _*_}
 use lib.Dec.{eqb, ltb}

@@ -6,7 +6,7 @@
 --     threshold, byScore         TA's and BPA's threshold; what TA, BPA and BPA2 have in common
 --     TA, BPA, BPA2, NRA         the four
 -- Rows and rounds are numbers of rows, so they read as on the page.
-use mathlib.Core.Bool.{Bool, true, false, cond, _&&_, _||_}
+use mathlib.Core.Bool.{Bool, false, cond, _&&_, _||_}
 use mathlib.Core.List.{List, [], _∷_}
 use Prim.Native.Nat.{ℕ, zero, suc, _-_}
 use lib.Dec.{eqb, leb, ltb}

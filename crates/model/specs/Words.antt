@@ -8,7 +8,7 @@
 --     over l s           l written from the start of the lent slice s; places beyond stay as lent
 --     lastOf d l         the last member of l, and d where l is empty
 --     within a b x       x is a..b
-use mathlib.Core.Bool.{Bool, true, false, cond, not, _&&_, _||_}
+use mathlib.Core.Bool.{Bool, true, false, cond, _&&_, _||_}
 use mathlib.Core.List.{List, [], _∷_, _++_}
 use Prim.Native.Nat.{ℕ, zero, suc, _+_}
 use lib.Dec.{leb}

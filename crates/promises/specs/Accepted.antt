@@ -5,17 +5,16 @@
 -- Assumes nothing.
 use mathlib.Core.Path.{_≡_, refl, sym, ap, _∙_}
 use mathlib.Core.Bool.{Bool, true, false, _&&_}
-use mathlib.Core.List.{List, [], _∷_, List·Memᴰ}
+use mathlib.Core.List.{List}
 use mathlib.Core.Logic.{_↔_}
-use Prim.Native.Nat.{ℕ, _-_, _≤_, _<_}
+use Prim.Native.Nat.{ℕ, _-_, _<_}
 use native.Mathlib.Omega.{arith}
-use lib.Dec.{eqb, leb, ltb}
+use lib.Dec.{eqb, ltb}
 use lib.ListN.{length}
 use borrow.Author.Tests.{eqb-true, lt-leb, le-ltb}
-use Rattle.model.specs.Words.{someBelow}
 use Rattle.model.specs.Given.{Poses, Query, item, score, place}
 use Rattle.model.specs.Searches.{Search}
-use Rattle.model.specs.Refusals.{Verdict, accepted, refused, Lent, posesOf, notItem, stoodEarlier, rises, standing, fault, firstRefusal, inList, inLists, searchShape, searchVerdict}
+use Rattle.model.specs.Refusals.{accepted, Lent, posesOf, notItem, stoodEarlier, rises, standing, fault, inList, inLists, searchVerdict}
 use Rattle.laws.specs.Tests.{by-cases, some-none}
 use Rattle.laws.specs.Verdicts.{first-refusal-all}
 use Rattle.laws.specs.Accepted.{Valid}

@@ -6,8 +6,8 @@
 use mathlib.Core.Path.{_≡_}
 use mathlib.Core.Bool.{true, false}
 use mathlib.Core.List.{List}
-use Prim.Native.Nat.{ℕ, _+_, _-_, _*_, _≤_, _<_}
-use lib.ListN.{length, getD, take}
+use Prim.Native.Nat.{ℕ, _-_, _*_, _≤_, _<_}
+use lib.ListN.{getD, take}
 use Rattle.model.specs.Given.{Poses, Query, total}
 use Rattle.model.specs.Accesses.{met, rounds}
 use Rattle.model.specs.Searches.{Search, stops}

@@ -4,18 +4,18 @@
 --     returned-ta .. returned-nra        the four
 --     delivered          what is claimed of the four together
 -- Assumes nothing.
-use mathlib.Core.Path.{_≡_, refl, sym, ap, subst, _∙_}
+use mathlib.Core.Path.{_≡_, sym, ap, subst, _∙_}
 use mathlib.Core.Bool.{true, false}
 use mathlib.Core.List.{List, map}
-use Prim.Native.Nat.{ℕ, _+_, _-_, _*_, _≤_, _<_}
+use Prim.Native.Nat.{ℕ, _-_, _≤_, _<_}
 use native.Mathlib.Nat.{le-refl}
 use native.Mathlib.Omega.{arith}
-use lib.ListN.{length, getD, take, drop, length-map}
+use lib.ListN.{length, getD, drop, length-map}
 use lib.Seq.{take-append-seam}
 use Rattle.model.specs.Words.{over}
 use Rattle.model.specs.Given.{Poses, Query, total}
-use Rattle.model.specs.Accesses.{sorted, direct, random, made, tally, times, rounds}
-use Rattle.model.specs.Searches.{Search, among, kept, rows, byScore, TA, BPA, BPA2, NRA, lowNRA, highNRA}
+use Rattle.model.specs.Accesses.{tally, times, rounds}
+use Rattle.model.specs.Searches.{Search, among, kept, rows, byScore, TA, BPA, BPA2, NRA}
 use Rattle.model.specs.Refusals.{Lent, posesOf, queryOf}
 use Rattle.laws.specs.Tests.{by-cases}
 use Rattle.laws.specs.Lists.{map-at, over-at, table-length, table-at, place-of}
@@ -24,7 +24,6 @@ use Rattle.laws.specs.Ranking.{among-at, among-found}
 use Rattle.laws.specs.Sums.{sum, made-length}
 use Rattle.demands.specs.Promise.{Owed, Promise, allMade}
 use Rattle.demands.specs.Promised.{promised}
-use Rattle.meeting.specs.Contracts.{Ran}
 use Rattle.searches.specs.declared.Answer.{Answer}
 use Rattle.searches.specs.Promises.{Finds, accepted-finds, accepted-call}
 use Rattle.promises.specs.Calls.{Call, Returns, Delivered}

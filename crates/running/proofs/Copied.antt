@@ -1,11 +1,11 @@
 -- The start of one list written over the start of another, one entry more.
 -- Assumes nothing.
 use mathlib.Core.Path.{_≡_, refl, ap}
-use mathlib.Core.List.{List, [], _∷_, _++_}
+use mathlib.Core.List.{List, [], _∷_}
 use Prim.Native.Nat.{ℕ, zero, suc, _+_, _<_}
 use native.Mathlib.Numerals.{add-one}
 use native.Mathlib.Omega.{arith}
-use lib.ListN.{length, getD, take, drop, set}
+use lib.ListN.{length, getD, take, set}
 use Rattle.model.specs.Words.{over}
 
 copied-suc : (i : ℕ) (a b : List ℕ) → i < length a → i < length b → set (over (take i a) b) i (getD a i 0) ≡ over (take (suc i) a) b

@@ -5,13 +5,13 @@
 -- Assumes nothing.
 use mathlib.Core.Path.{_≡_, refl, sym, ap, subst, _∙_}
 use mathlib.Core.List.{List, map}
-use Prim.Native.Nat.{ℕ, zero, suc, _≤_, _<_}
+use Prim.Native.Nat.{ℕ, zero, suc, _≤_}
 use native.Mathlib.Omega.{arith}
-use lib.ListN.{length, take, drop, length-map}
-use lib.Seq.{take-append-seam}
+use lib.ListN.{length, take, length-map}
 use Rattle.model.specs.Words.{over}
 use Rattle.model.specs.Given.{Poses, Query, total}
-use Rattle.model.specs.Searches.{Search, kept, rows, byScore, TA, BPA, BPA2, NRA}
+use Rattle.model.specs.Searches.{Search, kept, rows, byScore, NRA}
+use Rattle.laws.specs.Lists.{over-taken}
 use Rattle.laws.specs.Accepted.{Valid}
 use Rattle.demands.specs.Promised.{promised}
 use Rattle.meeting.specs.declared.Done.{Done}
@@ -43,11 +43,6 @@ kept-k (suc zero) s q k h v some most = rw (search-bpa s q) (promised s v q k so
 kept-k (suc (suc zero)) s q k h v some most = rw (search-bpa2 s q) (promised s v q k some most .bpa2 .size)
 kept-k (suc (suc (suc which))) s q k h v some most = absurd (omega (arith, h))
 
--- a list, written over what was lent, is read back
-read-back : (l lent : List ℕ) (k : ℕ) → length l ≡ k → take k (over l lent) ≡ l
-unfolding over
-read-back l lent k e = rw (← e) (take-append-seam l (drop (length l) lent))
-
 module _ (which : ℕ) (s : Poses) (q : Query) (k : ℕ) (picks₀ lows₀ highs₀ tally₀ : List ℕ) (d : Done) (picks lows highs marks : List ℕ) where
   pub scored-runs : which ≤ 2 → Valid s → 1 ≤ k → k ≤ s .n → ScoredRan which s q k picks₀ lows₀ tally₀ d picks lows marks → highs ≡ over (take k lows) highs₀
       → Runs which s q k picks₀ lows₀ highs₀ tally₀ d picks lows highs marks
@@ -64,7 +59,7 @@ module _ (which : ℕ) (s : Poses) (q : Query) (k : ℕ) (picks₀ lows₀ highs
             record {
               picks-are = ran .picks-are;
               lows-are = ran .lows-are;
-              highs-are = copied ∙ ap (λ (x : List ℕ). over x highs₀) (ap (take k) (ran .lows-are) ∙ read-back (map (total s q) best) lows₀ k size);
+              highs-are = copied ∙ ap (λ (x : List ℕ). over x highs₀) (ap (take k) (ran .lows-are) ∙ over-taken (map (total s q) best) lows₀ k size);
             };
         tally-is = ran .tally-is;
       } in

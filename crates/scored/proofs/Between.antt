@@ -7,34 +7,35 @@
 --     run-ends           the test holds: what `run` promises
 -- Assumes nothing.
 use mathlib.Core.Path.{_≡_, refl, sym, ap, _∙_}
-use mathlib.Core.Bool.{Bool, true, false, cond, _&&_, _||_}
+use mathlib.Core.Bool.{true, false, cond, _&&_, _||_}
 use mathlib.Core.Logic.{⊎-elim}
-use mathlib.Core.List.{List, [], _∷_, _++_, map}
-use Prim.Native.Nat.{ℕ, zero, suc, _+_, _-_, _*_, _≤_, _<_}
-use native.Mathlib.Nat.{eq-or-lt-of-le, suc-mul, mul-le-mul}
+use mathlib.Core.List.{List, _++_, map}
+use Prim.Native.Nat.{ℕ, _+_, _-_, _*_, _≤_, _<_}
+use native.Mathlib.Nat.{eq-or-lt-of-le, suc-mul}
 use native.Mathlib.Numerals.{add-one}
 use native.Mathlib.Omega.{arith}
 use lib.Dec.{eqb, leb}
-use lib.ListN.{length, getD, take, drop, replicate, length-replicate, length-map}
-use borrow.Author.Tests.{eqb-true, eqb-false, eq-eqb, ne-eqb}
+use lib.ListN.{length, getD, take, drop, replicate, length-replicate}
+use borrow.Author.Tests.{eqb-false}
 use Rattle.model.specs.Words.{table, over}
 use Rattle.model.specs.Given.{Poses, Query, total}
-use Rattle.model.specs.Accesses.{Kind, sorted, direct, random, Access, times, best, made, tally}
-use Rattle.model.specs.Searches.{kept, stops, rows, threshold}
-use Rattle.laws.specs.Tests.{by-cases, or-no}
+use Rattle.model.specs.Accesses.{Access, times, best, made, tally}
+use Rattle.model.specs.Searches.{stops, rows}
+use Rattle.laws.specs.Tests.{or-no}
 use Rattle.laws.specs.Lists.{table-length}
 use Rattle.laws.specs.Accepted.{Valid}
 use Rattle.laws.specs.Lookups.{made-none}
 use Rattle.lists.specs.Contracts.{poses}
 use Rattle.meeting.specs.Contracts.{queryWith, Readable}
 use Rattle.meeting.specs.declared.Done.{Done}
-use Rattle.scored.specs.declared.rows.Turn.{Turn}
-use Rattle.scored.specs.Contracts.{Keeps, Listing, walkedTo, Advancing, Limited, limitAt}
-use Rattle.scored.specs.State.{ranking, State, Goes, Standing, Reached}
+use Rattle.stepping.specs.declared.rows.Turn.{Turn}
+use Rattle.stepping.specs.Contracts.{Keeps, Advancing}
+use Rattle.scored.specs.Contracts.{Limited, limitAt}
+use Rattle.stepping.specs.State.{ranking, State, Standing, Reached}
 use Rattle.scored.specs.Run.{stepsBy, reachBy, kindBy, searchBy, Stepped, Placed, Counted, Ran}
-use Rattle.scored.proofs.Meetings.{over-over}
-use Rattle.scored.proofs.Steps.{keeps-now, small-of}
-use Rattle.scored.proofs.Turning.{walked-best, walkable-of}
+use Rattle.laws.specs.Lists.{over-over}
+use Rattle.stepping.specs.Steps.{keeps-now, small-of}
+use Rattle.stepping.specs.Best.{walked-best, walkable-of}
 use Rattle.scored.proofs.Running.{counts-are, reached-at, limit-is, kept-is, stops-told, row-is, state-start, steps-none}
 
 pub state-self : {s : Poses} {q : Query} {k filled : ℕ} {tr : List Access} {picks₀ lows₀ tally₀ picks lows marks : List ℕ} → State s q k tr picks₀ lows₀ tally₀ filled picks lows marks → State s q k tr picks lows marks filled picks lows marks

@@ -9,18 +9,18 @@
 -- Assumes nothing.
 use mathlib.Core.Path.{_≡_, refl, sym, ap, _∙_}
 use mathlib.Core.Bool.{Bool, true, false, cond, _&&_, _||_, true≢false, false≢true}
-use mathlib.Core.List.{List, [], _∷_, _++_, map}
-use Prim.Native.Nat.{ℕ, zero, suc, _+_, _-_, _*_, _≤_, _<_, min}
-use native.Mathlib.Nat.{add-zero, suc-mul}
+use mathlib.Core.List.{List, [], _++_, map}
+use Prim.Native.Nat.{ℕ, zero, suc, _+_, _-_, _*_, _≤_, _<_}
+use native.Mathlib.Nat.{suc-mul}
 use native.Mathlib.Numerals.{add-one}
 use native.Mathlib.Omega.{arith}
 use lib.Dec.{eqb, leb, ltb}
 use lib.ListN.{length, getD, take, drop, replicate, length-take, length-map, length-replicate}
 use lib.Seq.{take-nil, getD-take}
-use borrow.Author.Tests.{eqb-true, eqb-false, eq-eqb, ne-eqb, leb-true, leb-false, le-leb, lt-leb, ltb-true, ltb-false}
-use Rattle.model.specs.Words.{first, lastOf, row, table, over}
-use Rattle.model.specs.Given.{Poses, Query, score, joined, overall, total}
-use Rattle.model.specs.Accesses.{Kind, sorted, direct, random, sameKind, Access, rowTA, rowsTA, rounds, times, met, best, made, tally}
+use borrow.Author.Tests.{eqb-true, eqb-false, eq-eqb, ne-eqb, leb-true, ltb-true, ltb-false}
+use Rattle.model.specs.Words.{first, lastOf, over}
+use Rattle.model.specs.Given.{Poses, Query, score, overall, total}
+use Rattle.model.specs.Accesses.{sorted, direct, random, sameKind, rowTA, rowsTA, rounds, times, met, best, made, tally}
 use Rattle.model.specs.Searches.{Search, ahead, ranked, order, kept, stops, rows, threshold, byScore}
 use Rattle.laws.specs.Tests.{by-cases, first-is, first-most, first-least, first-passes}
 use Rattle.laws.specs.Lists.{table-same, table-zeros, over-at, map-at}
@@ -34,13 +34,10 @@ use Rattle.laws.specs.Rounds.{none-met, rounds-turns, rounds-covers}
 use Rattle.laws.specs.Kept.{last-at}
 use Rattle.laws.specs.Overall.{joined-same}
 use Rattle.lists.specs.Contracts.{poses}
-use Rattle.meeting.specs.Contracts.{queryWith, Readable}
-use Rattle.meeting.specs.declared.Done.{Done}
-use Rattle.scored.specs.Contracts.{Keeps, Listing, walkedTo, Limited, limitAt}
-use Rattle.scored.specs.State.{ranking, State, Reached}
-use Rattle.scored.specs.Run.{stepsBy, reachBy, kindBy, searchBy, Placed, Counted}
-use Rattle.scored.proofs.Steps.{small-of}
-use Rattle.scored.proofs.Turning.{walked-best}
+use Rattle.meeting.specs.Contracts.{queryWith}
+use Rattle.scored.specs.Contracts.{limitAt}
+use Rattle.stepping.specs.State.{ranking, State, Reached}
+use Rattle.scored.specs.Run.{stepsBy, reachBy, kindBy, searchBy}
 
 -- ---- the numbers
 pub steps-rounds : (which : ℕ) (s : Poses) (p : ℕ) → which ≡ 2 → stepsBy which s p ≡ rounds s p

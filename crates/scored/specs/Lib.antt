@@ -1,7 +1,5 @@
--- What TA, BPA and BPA2 share.
---     Contracts      the records that the contracts of the shortlist and of the visits cite
---     State          the state of a search against the accesses made, and what one step does to it
---     Run            TA, BPA and BPA2 by their numbers, and what their run asks and promises
+-- TA, BPA and BPA2: their loop over rows or rounds.
+--     Contracts      what the threshold asks and is
+--     Run            the three searches by their numbers; what a run asks and promises
 pub mod Contracts
-pub mod State
 pub mod Run

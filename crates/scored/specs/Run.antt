@@ -18,9 +18,9 @@ use Rattle.model.specs.Accesses.{Kind, sorted, direct, random, Access, rowsTA, 
 use Rattle.model.specs.Searches.{Search, kept, rows, threshold, byScore, TA, BPA, BPA2}
 use Rattle.meeting.specs.Contracts.{Readable}
 use Rattle.meeting.specs.declared.Done.{Done}
-use Rattle.scored.specs.declared.rows.Turn.{Turn}
-use Rattle.scored.specs.Contracts.{Keeps, walkedTo}
-use Rattle.scored.specs.State.{Goes, Standing, Reached}
+use Rattle.stepping.specs.declared.rows.Turn.{Turn}
+use Rattle.stepping.specs.Contracts.{Keeps, walkedTo}
+use Rattle.stepping.specs.State.{Goes, Standing, Reached}
 
 -- the accesses of the first p rows of TA and BPA, or rounds of BPA2
 unfoldable pub stepsBy : ℕ → Poses → ℕ → List Access

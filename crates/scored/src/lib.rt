@@ -1,20 +1,19 @@
 // The searches that look an item's whole score up: TA, BPA and BPA2. They differ in the positions of a row or round
 // and in those of the threshold, so one loop serves all three.
 mod limits;
-mod rows;
-mod shortlist;
-mod visits;
 
 use meeting::Direct;
 use meeting::Done;
 use meeting::Random;
 use meeting::Sorted;
-use rows::Turn;
+use stepping::rows;
+use stepping::rows::Turn;
+use stepping::visits;
 ghost use mathlib.Core.Path.{_≡_};
 ghost use Prim.Native.Nat.{_+_, _*_, _≤_, _<_};
 ghost use Rattle.lists.specs.Contracts.{poses};
 ghost use Rattle.meeting.specs.Contracts.{queryWith};
-ghost use Rattle.scored.specs.Contracts.{Advancing};
+ghost use Rattle.stepping.specs.Contracts.{Advancing};
 ghost use Rattle.scored.specs.Run.{Stepping, Stepped, Counting, Counted, Placed, Running, Ran};
 
 // The numbers by which a search of this crate is called.

@@ -5,10 +5,10 @@
 --     Finds, accepted-finds  what a call that is accepted tells and leaves in the slices of shortlist and tally
 --     accepted-call          and then k is one of 1 to n and the lists are valid
 -- Assumes nothing.
-use mathlib.Core.Path.{_≡_, refl, sym, ap, _∙_}
+use mathlib.Core.Path.{_≡_, refl, sym, _∙_}
 use mathlib.Core.List.{List, map}
 use mathlib.Core.Logic.{_↔_}
-use Prim.Native.Nat.{ℕ, _≤_}
+use Prim.Native.Nat.{ℕ}
 use Rattle.model.specs.Given.{Poses, Query}
 use Rattle.model.specs.Searches.{Search, kept, rows}
 use Rattle.model.specs.Words.{over}

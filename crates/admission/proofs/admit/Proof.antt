@@ -1,8 +1,7 @@
 -- `admission::admit` meets its contract: refused by its own tests, or answered by the list check.
 -- Assumes nothing.
-use mathlib.Core.Path.{_≡_, refl, sym, _∙_}
+use mathlib.Core.Path.{refl, sym, _∙_}
 use borrow.Author.Needs.{needs}
-use lib.ListN.{length}
 use Rattle.admission.proofs.Tested.{admitted-refused, admitted-checked}
 use Rattle.admission.proofs.admit.Statement.{statement}
 use Rattle.admission.proofs.admit.Tie as tie

@@ -1,17 +1,17 @@
 -- `admission::decode` meets its contract. The loop's invariant: the first i weights are decoded, the rest are 0; the
 -- measure is how many are left.
 -- Assumes nothing.
-use mathlib.Core.Path.{_≡_, refl, sym, ap, _∙_}
-use mathlib.Core.List.{List}
-use Prim.Native.Nat.{ℕ, zero, suc, _+_, _-_, _*_, _≤_, _<_}
+use mathlib.Core.Path.{_≡_, sym, _∙_}
+use Prim.Native.Nat.{ℕ, _-_, _≤_, _<_}
 use native.Mathlib.Numerals.{add-one}
 use native.Mathlib.Omega.{arith}
 use lib.Dec.{ltb}
-use lib.ListN.{length, getD, set, replicate, length-set, length-replicate}
+use lib.ListN.{length, getD, length-set, length-replicate}
 use lib.Seq.{getD-set-same, getD-set-other}
 use borrow.Author.Tests.{ltb-true, ltb-false}
 use Rattle.model.specs.Refusals.{weightOf}
 use Rattle.laws.specs.Tests.{by-cases, below-suc}
+use Rattle.laws.specs.Lists.{zeros-at}
 use Rattle.admission.specs.Shapes.{weight-past}
 use Rattle.admission.proofs.decode.Statement.{statement}
 use Rattle.admission.proofs.decode.Tie as tie
@@ -22,11 +22,6 @@ Inv-loop m weights numbers₀ i₀ numbers i =
 
 abbrev μ-loop : tie.MeasureT-loop
 μ-loop m weights numbers₀ i₀ numbers i = m - i
-
-zeros-at : (n i : ℕ) → _≡_ {A = ℕ} (getD (replicate n 0) i 0) 0
-zeros-at zero i = refl
-zeros-at (suc n) zero = refl
-zeros-at (suc n) (suc i) = zeros-at n i
 
 loop-holds : tie.Need-loop-holds Inv-loop μ-loop
 loop-holds c = (omega arith, length-replicate {A = ℕ} 8 0, λ j h. absurd (omega arith), λ j h. zeros-at 8 j)

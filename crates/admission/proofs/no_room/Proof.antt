@@ -1,7 +1,5 @@
 -- `admission::no_room` meets its contract: each way out fixes one of the five comparisons.
 -- Assumes nothing.
-use mathlib.Core.Path.{_≡_, refl}
-use mathlib.Core.Bool.{or-true}
 use borrow.Author.Tests.{lt-ltb, le-ltb}
 use Rattle.admission.proofs.no_room.Statement.{statement}
 use Rattle.admission.proofs.no_room.Tie as tie

@@ -1,9 +1,7 @@
 -- `admission::pair` meets its contract: a byte is at most 255.
 -- Assumes nothing.
-use mathlib.Core.Path.{_≡_, refl}
-use Prim.Native.Nat.{ℕ, _+_, _*_, _≤_}
+use Prim.Native.Nat.{_+_}
 use native.Mathlib.Omega.{arith}
-use lib.ListN.{getD}
 use Rattle.model.specs.Refusals.{pair}
 use Rattle.admission.proofs.pair.Statement.{statement}
 use Rattle.admission.proofs.pair.Tie as tie

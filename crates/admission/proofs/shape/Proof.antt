@@ -1,12 +1,12 @@
 -- `admission::shape` meets its contract: each way out is the first test that is met.
 -- Assumes nothing.
-use mathlib.Core.Path.{_≡_, refl, sym, _∙_}
+use mathlib.Core.Path.{_≡_, sym, _∙_}
 use mathlib.Core.Bool.{true, false}
-use Prim.Native.Nat.{ℕ, _*_, _≤_}
+use Prim.Native.Nat.{_*_}
 use native.Mathlib.Omega.{arith}
 use borrow.Author.Tests.{lt-ltb, le-ltb}
 use Rattle.model.specs.Refusals.{wrongSize, wrongK, wrongRule, wrongWeights}
-use Rattle.laws.specs.Accepted.{Sized, sized, size-fits}
+use Rattle.laws.specs.Accepted.{sized, size-fits}
 use Rattle.admission.specs.Contracts.{noRoomOf, shapeOf}
 use Rattle.admission.proofs.shape.Statement.{statement}
 use Rattle.admission.proofs.shape.Tie as tie

@@ -1,6 +1,5 @@
 -- `admission::wrong_k` meets its contract.
 -- Assumes nothing.
-use mathlib.Core.Path.{_≡_, refl}
 use borrow.Author.Tests.{eq-eqb, ne-eqb}
 use Rattle.model.specs.Refusals.{wrongK}
 use Rattle.admission.proofs.wrong_k.Statement.{statement}

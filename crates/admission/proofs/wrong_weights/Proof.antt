@@ -1,15 +1,14 @@
 -- `admission::wrong_weights` meets its contract. The loop's invariant: the first i weights are at most 1,000; the measure
 -- is how many are left.
 -- Assumes nothing.
-use mathlib.Core.Path.{_≡_, refl, sym, _∙_}
+use mathlib.Core.Path.{_≡_, sym}
 use mathlib.Core.Bool.{true, false}
-use Prim.Native.Nat.{ℕ, _+_, _-_, _*_, _≤_, _<_}
+use Prim.Native.Nat.{ℕ, _-_, _*_, _≤_, _<_}
 use native.Mathlib.Omega.{arith}
 use lib.Dec.{ltb}
 use lib.ListN.{length}
 use borrow.Author.Tests.{eq-eqb, ne-eqb, lt-ltb, le-ltb}
 use borrow.Author.Count.{below-more}
-use Rattle.model.specs.Words.{someBelow}
 use Rattle.model.specs.Refusals.{weightOf, wrongWeights}
 use Rattle.laws.specs.Tests.{some-hit, some-none}
 use Rattle.admission.proofs.wrong_weights.Statement.{statement}

@@ -2,12 +2,12 @@
 -- Assumes nothing.
 use mathlib.Core.Path.{_≡_, sym, _∙_}
 use mathlib.Core.Bool.{false}
-use Prim.Native.Nat.{ℕ, _*_, _≤_}
+use Prim.Native.Nat.{_*_, _≤_}
 use native.Mathlib.Omega.{arith}
 use borrow.Author.Needs.{needs}
 use Rattle.model.specs.Given.{Poses}
 use Rattle.model.specs.Refusals.{wrongSize}
-use Rattle.laws.specs.Accepted.{Sized, sized, size-fits}
+use Rattle.laws.specs.Accepted.{sized, size-fits}
 use Rattle.lists.specs.Contracts.{poses}
 use Rattle.lists.proofs.Whole.{shape-1, shape-5-items, shape-5-scores, shape-6, shape-passes, refused-by-shape, accepted-lists, refused-lists}
 use Rattle.lists.proofs.check_lists.Statement.{statement}

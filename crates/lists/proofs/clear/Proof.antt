@@ -1,9 +1,9 @@
 -- `lists::clear` meets its contract. The loop's invariant: the first i entries are 0 and the rest as lent; the measure is what
 -- is left of `size`.
 -- Assumes nothing.
-use mathlib.Core.Path.{_≡_, refl, ap, _∙_}
+use mathlib.Core.Path.{_≡_, refl}
 use mathlib.Core.List.{_++_}
-use Prim.Native.Nat.{_-_, _≤_, _<_}
+use Prim.Native.Nat.{_-_, _≤_}
 use lib.ListN.{length, drop, replicate, length-set}
 use native.Mathlib.Omega.{arith}
 use borrow.Author.Needs.{needs}

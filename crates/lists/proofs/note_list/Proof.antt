@@ -1,12 +1,11 @@
 -- `lists::note_list` meets its contract. The loop's invariant: p positions have passed (`Walked`), and a place is lent for each
 -- item; the measure is what is left of the list.
 -- Assumes nothing.
-use mathlib.Core.Path.{_≡_, refl, sym, ap, _∙_}
+use mathlib.Core.Path.{_≡_, sym, ap, _∙_}
 use mathlib.Core.List.{List, _++_, append-nil}
 use Prim.Native.Nat.{ℕ, _+_, _-_, _*_, _≤_, _<_}
 use lib.ListN.{length, getD, drop, replicate, length-set, length-replicate, drop-of-length-le}
 use native.Mathlib.Omega.{arith}
-use borrow.Author.Needs.{needs}
 use native.Mathlib.Nat.{le-of-eq}
 use Rattle.model.specs.Given.{Poses, item, score}
 use Rattle.lists.specs.Contracts.{poses}

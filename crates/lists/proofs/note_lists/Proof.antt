@@ -1,7 +1,7 @@
 -- `lists::note_lists` meets its contract. The loop's invariant: i lists have passed and their rows are noted (`RowsNoted`), and
 -- the work slice has its length; the measure is how many lists are left.
 -- Assumes nothing.
-use mathlib.Core.Path.{_≡_, refl, sym, ap, _∙_}
+use mathlib.Core.Path.{_≡_, refl, _∙_}
 use Prim.Native.Nat.{ℕ, _+_, _-_, _*_, _≤_, _<_}
 use native.Mathlib.Omega.{arith}
 use lib.ListN.{length}

@@ -1,10 +1,10 @@
 -- `meeting::bound` meets its contract. The loop's invariant: the accumulator is the joined products of the lists passed, and is
 -- at most 65,535,000 for each of them; the measure is how many lists are left.
 -- Assumes nothing.
-use mathlib.Core.Path.{_≡_, refl, sym, ap, _∙_}
+use mathlib.Core.Path.{_≡_, refl}
 use mathlib.Core.Bool.{Bool, true, false, cond}
 use mathlib.Core.List.{List}
-use Prim.Native.Nat.{ℕ, zero, suc, _+_, _-_, _*_, _≤_, _<_, min, max}
+use Prim.Native.Nat.{ℕ, zero, suc, _+_, _-_, _*_, _≤_}
 use native.Mathlib.Nat.{mul-le-mul}
 use native.Mathlib.Numerals.{add-one}
 use native.Mathlib.Omega.{arith}
@@ -12,7 +12,7 @@ use lib.Dec.{eqb, leb}
 use lib.ListN.{getD}
 use Rattle.model.specs.Given.{join, joinTwo, joined}
 use Rattle.laws.specs.Tests.{by-cases}
-use Rattle.meeting.specs.Contracts.{readAt, unread, Small}
+use Rattle.meeting.specs.Contracts.{readAt, unread}
 use Rattle.meeting.proofs.bound.Statement.{statement}
 use Rattle.meeting.proofs.bound.Tie as tie
 

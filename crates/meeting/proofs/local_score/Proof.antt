@@ -1,6 +1,5 @@
 -- `meeting::local_score` meets its contract: its three ways out are the cases of `readAt` and `unread`.
 -- Assumes nothing.
-use mathlib.Core.Path.{_≡_, refl, sym, ap, _∙_}
 use Prim.Native.Nat.{ℕ, _+_, _-_, _*_, _≤_, _<_}
 use native.Mathlib.Omega.{arith}
 use lib.ListN.{length, getD}

@@ -1,7 +1,5 @@
 -- `running::run` meets its contract: by score, or by bounds, as the number says.
 -- Assumes nothing.
-use mathlib.Core.Path.{_≡_}
-use Prim.Native.Nat.{_≤_, _<_}
 use native.Mathlib.Omega.{arith}
 use borrow.Author.Needs.{needs}
 use Rattle.lists.specs.Contracts.{poses}

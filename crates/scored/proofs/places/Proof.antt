@@ -1,9 +1,7 @@
 -- `scored::places` meets its contract: TA takes position p of every list, BPA and BPA2 each list's best position.
 -- Assumes nothing.
-use mathlib.Core.Path.{_≡_, refl, sym, _∙_}
-use Prim.Native.Nat.{ℕ, _<_}
 use native.Mathlib.Omega.{arith}
-use lib.ListN.{getD, replicate, getD-replicate}
+use lib.ListN.{getD-replicate}
 use borrow.Author.Tests.{eq-eqb, ne-eqb}
 use Rattle.scored.proofs.places.Statement.{statement}
 use Rattle.scored.proofs.places.Tie as tie

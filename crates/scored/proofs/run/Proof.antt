@@ -1,14 +1,15 @@
 -- `scored::run` meets its contract. The loop's invariant: p rows or rounds are made and none of them ends the search (`Between`);
 -- the measure is how many rows are left.
 -- Assumes nothing.
-use mathlib.Core.Path.{_≡_, refl, sym, ap, _∙_}
-use mathlib.Core.List.{List, [], _∷_, _++_}
-use Prim.Native.Nat.{ℕ, zero, suc, _+_, _-_, _*_, _≤_, _<_}
+use mathlib.Core.Path.{_≡_, sym, _∙_}
+use mathlib.Core.List.{_++_}
+use Prim.Native.Nat.{ℕ, _+_, _-_, _*_, _≤_}
 use native.Mathlib.Nat.{mul-le-mul}
 use native.Mathlib.Omega.{arith}
-use lib.ListN.{length, getD, drop, replicate, length-replicate}
+use lib.ListN.{length, drop, replicate, length-replicate}
 use Rattle.model.specs.Words.{over}
 use Rattle.model.specs.Given.{Poses, Query}
+use Rattle.laws.specs.Lists.{zeros-at}
 use Rattle.lists.specs.Contracts.{poses}
 use Rattle.meeting.specs.Contracts.{queryWith}
 use Rattle.scored.proofs.Between.{Between, After, between-starts, standing-between, advancing-then, row-made, limited-after, lows-after, after-goes-on, run-ends}
@@ -28,11 +29,6 @@ lent c = poses (c .args .m) (c .args .n) (c .args .items .now) (c .args .scores 
 
 abbrev asked : (c : tie.Start Inv-loop μ-loop) → Query
 asked c = queryWith (c .args .rule) (c .args .weights)
-
-zeros-at : (n i : ℕ) → _≡_ {A = ℕ} (getD (replicate n 0) i 0) 0
-zeros-at zero i = refl
-zeros-at (suc n) zero = refl
-zeros-at (suc n) (suc i) = zeros-at n i
 
 size-small : (c : tie.Start Inv-loop μ-loop) → c .args .m * c .args .n ≤ 8192
 size-small c = mul-le-mul (c .pre .readable .lists-valid .size .m-most) (c .pre .readable .lists-valid .size .n-most)

@@ -1,10 +1,9 @@
 -- `searches::search` meets its contract: refused by the tests, or run.
 -- Assumes nothing.
-use mathlib.Core.Path.{_≡_, refl}
-use Prim.Native.Nat.{_≤_, _<_}
+use mathlib.Core.Path.{refl}
 use native.Mathlib.Omega.{arith}
 use borrow.Author.Needs.{needs}
-use Rattle.model.specs.Refusals.{Lent, posesOf}
+use Rattle.model.specs.Refusals.{posesOf}
 use Rattle.admission.specs.Contracts.{lentWith}
 use Rattle.admission.specs.Passing.{passed}
 use Rattle.searches.proofs.Answering.{refused-answer, readable, search-answer}

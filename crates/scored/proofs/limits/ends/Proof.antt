@@ -1,6 +1,5 @@
 -- `scored::limits::ends` meets its contract: its three ways out are the last row, too few items met, and the comparison.
 -- Assumes nothing.
-use mathlib.Core.Path.{_≡_, refl}
 use native.Mathlib.Omega.{arith}
 use borrow.Author.Tests.{eq-eqb, ne-eqb, le-leb, lt-leb}
 use Rattle.scored.proofs.limits.ends.Statement.{statement}

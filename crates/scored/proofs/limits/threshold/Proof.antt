@@ -1,7 +1,7 @@
 -- `scored::limits::threshold` meets its contract. The loop's invariant: the accumulator is the joined products of the lists passed,
 -- and is at most 65,535,000 for each of them; the measure is how many lists are left.
 -- Assumes nothing.
-use mathlib.Core.Path.{_≡_, refl, sym, ap, _∙_}
+use mathlib.Core.Path.{_≡_, refl, ap, _∙_}
 use mathlib.Core.List.{List}
 use Prim.Native.Nat.{ℕ, _+_, _-_, _*_, _≤_, _<_}
 use native.Mathlib.Numerals.{add-one}

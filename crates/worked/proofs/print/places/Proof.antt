@@ -2,7 +2,6 @@
 -- Assumes nothing.
 use Prim.Native.Nat.{_-_, _≤_}
 use borrow.Author.Needs.{needs}
-use native.Mathlib.Omega.{arith}
 use Rattle.worked.proofs.print.places.Statement.{statement}
 use Rattle.worked.proofs.print.places.Tie as tie
 
