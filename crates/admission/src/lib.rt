@@ -7,19 +7,12 @@ ghost use Rattle.model.specs.Answers.{told};
 ghost use Rattle.admission.specs.Contracts.{noRoomOf, shapeOf, Decoded, Admitted};
 use lists::Checked;
 
-fn wide(x: u8) -> u32
-    ensures { λ r. ⌜ r ≡ x ⌝ }
-{
-    x as u32
-}
-
-// The number in two bytes, the higher one first.
+// A weight is written as in a record, in two bytes.
 fn pair(bytes: &[u8], at: usize) -> u32
     requires { ⌜ at + 1 < length (now bytes) ⌝ }
     ensures { λ r. ⌜ r ≡ pairOf (now (bytes .entry)) at ⌝ }
 {
-    let next = at + 1;
-    wide(bytes[at]) * 256 + wide(bytes[next])
+    records::pair_at(bytes, at) as u32
 }
 
 // Test 2: k is 0 or above n.

@@ -1,5 +1,6 @@
 // NRA's test after p rows, with no order made: it holds exactly where the k-th low parts the first k
 // items from all others.
+use lists::wide;
 use meeting::bound;
 ghost use mathlib.Core.Path.{_≡_};
 ghost use mathlib.Core.Bool.{_&&_};
@@ -9,12 +10,6 @@ ghost use lib.ListN.{length, getD};
 ghost use Rattle.model.specs.Words.{someBelow};
 ghost use Rattle.laws.specs.Lookups.{once};
 ghost use Rattle.bounded.specs.Contracts.{view, markOf, reachOf, partsOf, haltsOf, Legible, Marked, Barred};
-
-fn wide(x: u16) -> usize
-    ensures { λ r. ⌜ r ≡ x ⌝ }
-{
-    x as usize
-}
 
 // Item d is met after p rows: in one list its position is at most p.
 pub fn seen(d: usize, p: usize, m: usize, n: usize, work: &[u16]) -> bool

@@ -77,7 +77,8 @@ fn clear(work: &mut [u16], size: usize)
     }
 }
 
-fn wide(x: u16) -> usize
+// An item or a position as an index. A read of a slice in a sum would leave no name to speak of.
+pub fn wide(x: u16) -> usize
     ensures { λ r. ⌜ r ≡ x ⌝ }
 {
     x as usize

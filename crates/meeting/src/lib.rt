@@ -3,6 +3,7 @@
 pub mod seats;
 pub mod sliding;
 
+use lists::wide;
 ghost use mathlib.Core.Path.{_≡_};
 ghost use Prim.Native.Nat.{_+_, _*_, _≤_, _<_};
 ghost use lib.ListN.{getD};
@@ -26,13 +27,8 @@ pub struct Done {
     pub random: Random,
 }
 
-fn wide(x: u16) -> usize
-    ensures { λ r. ⌜ r ≡ x ⌝ }
-{
-    x as usize
-}
-
-fn wider(x: u16) -> u32
+// A score as a factor.
+pub fn wider(x: u16) -> u32
     ensures { λ r. ⌜ r ≡ x ⌝ }
 {
     x as u32

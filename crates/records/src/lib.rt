@@ -35,8 +35,8 @@ fn wide(x: u8) -> usize
     x as usize
 }
 
-// The number in the two bytes from `at` on.
-fn pair_at(bytes: &[u8], at: usize) -> usize
+// The number in the two bytes from `at` on, the higher one first.
+pub fn pair_at(bytes: &[u8], at: usize) -> usize
     requires { ⌜ at + 1 < length (now bytes) ⌝ }
     ensures { λ r. ⌜ (r ≡ pair (now (bytes .entry)) at) × (r < 65536) ⌝ }
 {

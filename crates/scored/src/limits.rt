@@ -1,16 +1,11 @@
 // The threshold of a row or round, and the test against it.
+use meeting::wider;
 ghost use mathlib.Core.Path.{_≡_};
 ghost use mathlib.Core.Bool.{_&&_, _||_};
 ghost use Prim.Native.Nat.{_+_, _-_, _*_, _≤_, _<_};
 ghost use lib.Dec.{leb, eqb};
 ghost use lib.ListN.{length, getD};
 ghost use Rattle.scored.specs.Contracts.{Limited, limitAt};
-
-fn wider(x: u16) -> u32
-    ensures { λ r. ⌜ r ≡ x ⌝ }
-{
-    x as u32
-}
 
 // The overall score of the local scores at a position of each list.
 fn threshold(rule: u8, weights: [u32; 8], m: usize, n: usize, at: [usize; 8], scores: &[u16]) -> u32

@@ -9,12 +9,7 @@ ghost use Rattle.meeting.specs.Contracts.{queryWith};
 ghost use Rattle.stepping.specs.State.{Meeting, Met, Goes, Standing, Looking, Turned, Rounding, Rounded};
 use crate::shortlist;
 use crate::visits;
-
-fn wide(x: u16) -> usize
-    ensures { λ r. ⌜ r ≡ x ⌝ }
-{
-    x as usize
-}
+use lists::wide;
 
 // Item d is found: one visit of its position in every list and, where it is new, its score and its place
 // in the shortlist. It is new where list 1 was never visited at its position. Gives how many are kept then.

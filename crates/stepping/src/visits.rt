@@ -1,15 +1,10 @@
 // Visits of positions, kept in the tally, and the best position of a list read off it.
+use lists::wide;
 ghost use mathlib.Core.Path.{_≡_};
 ghost use Prim.Native.Nat.{_+_, _*_, _≤_, _<_};
 ghost use mathlib.Core.List.{_++_};
 ghost use lib.ListN.{length, drop, replicate};
 ghost use Rattle.stepping.specs.Contracts.{Visitable, visitedOnce, Walkable, walkedTo, Advancing, Advanced};
-
-fn wide(x: u16) -> usize
-    ensures { λ r. ⌜ r ≡ x ⌝ }
-{
-    x as usize
-}
 
 // One visit of item d's position in every list. The work slice has the positions, from one.
 pub fn visit(d: usize, m: usize, n: usize, tally: &mut [u8], work: &[u16])
