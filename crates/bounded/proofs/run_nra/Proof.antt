@@ -21,7 +21,7 @@ rank-requires c κs =
     let a = at-start .args in
     let room = at-start .pre .1 in
     let found = after-stopping-row .stopping-row .ensures in (
-      legible (a .m) (a .n) (a .rule) (a .weights) (a .items .now) (a .scores .now) (a .work .now) (at-start .pre .0) (after-stopping-row .stopping-row .result) (found .row-least) (found .row-most),
+      legible (a .m) (a .n) (a .rule) (a .weights) (a .items .now) (a .scores .now) (a .work .now) (at-start .pre .0) _ (omega (arith, found .row-least, found .row-most)) (omega (arith, found .row-least, found .row-most)),
       record { k-least = room .k-least; picks-long = room .picks-long; lows-long = room .lows-long; highs-long = room .highs-long },
     )
 

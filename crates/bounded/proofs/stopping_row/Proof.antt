@@ -35,7 +35,7 @@ halts-requires c κs =
     let at-start = c .before .before .before .before .before in
     let inv = at-loop .loop .inv in
     let between = c .probe .ensures in (
-      at-row (at-start .pre .0) (c .probe .result) (omega (arith, between .0, inv .from-least)) (omega (arith, between .1, inv .to-most)),
+      at-row (at-start .pre .0) _ (omega (arith, between .0, between .1, inv .from-least)) (omega (arith, between .1, inv .to-most)),
       at-start .pre .1,
     )
 

@@ -5,6 +5,7 @@ use borrow.Author.Needs.{needs}
 use mathlib.Core.Path.{_∙_}
 use native.Mathlib.Omega.{arith}
 use Rattle.bounded.proofs.Marks.{reach-none, halts-few, halts-barred}
+use Rattle.bounded.proofs.Narrowing.{at-row}
 use Rattle.bounded.proofs.bar.halts.Statement.{statement}
 use Rattle.bounded.proofs.bar.halts.Tie as tie
 
@@ -14,7 +15,8 @@ slice-aggregate-note-marks c = search needs
 note-marks-requires : tie.Need-note-marks-requires
 note-marks-requires c κs =
     let at-start = c .before .before .before in
-    (at-start .pre .0, at-start .pre .0 .n-most)
+    let read = at-start .pre .0 in
+    (at-row read _ (omega (arith, read .row-least, read .row-most)) (omega (arith, read .row-most)), read .n-most)
 
 slice-aggregate-reach : tie.Need-slice-aggregate-reach
 slice-aggregate-reach c = search needs

@@ -113,7 +113,9 @@ look-requires c κs =
     let at-best = best-of after-walk-on r standing (at-start .pre .reached) in
     record {
       list-within = in-turn .loop-test .taken;
-      at-most = omega (arith, at-best, best-most (lent at-start) (round (lent at-start) (rounds (lent at-start) r) i) i);
+      at-most =
+          omega
+          (arith, at-best, part-of in-turn .reached i (in-turn .loop-test .taken), best-most (lent at-start) (round (lent at-start) (rounds (lent at-start) r) i) i);
       items-long = v .items-long;
       meeting = λ hb.
           meeting-of (at-start .args .m) (at-start .args .n) (at-start .args .rule) (at-start .args .weights) (at-start .args .items .now) (at-start .args .scores .now) (at-start .args .work .now)
