@@ -1,19 +1,23 @@
 -- `scored::counts` meets its contract: each lookup is one access of the search's own kind and a random one in each other list.
 -- Assumes nothing.
 use mathlib.Core.Path.{refl}
-use Prim.Native.Nat.{_-_, _*_, _≤_}
+use Prim.Native.Nat.{ℕ, _*_, _≤_}
 use native.Mathlib.Nat.{mul-le-mul}
 use native.Mathlib.Omega.{arith}
 use borrow.Author.Tests.{eq-eqb, ne-eqb}
+use mir.Syntax.{w32}
+use mir.Val.{Fits}
 use Rattle.scored.proofs.counts.Statement.{statement}
 use Rattle.scored.proofs.counts.Tie as tie
 
--- the random accesses are few
-random-few : (c : tie.Start) → c .args .found * (c .args .m - 1) ≤ 8192 * 7
-random-few c = let others : c .args .m - 1 ≤ 7 = omega (arith, c .pre .m-most) in mul-le-mul (c .pre .found-most) others
+-- a product of so many lookups and so few lists fits into 32 bits
+random-few : {found others : ℕ} → found ≤ 8192 → others ≤ 8 → Fits w32 (found * others)
+random-few {found} {others} few lists =
+    let most : found * others ≤ 8192 * 8 = mul-le-mul few lists in
+    omega (arith, most)
 
 sub-others : tie.Need-sub-others
-sub-others c = c .pre .m-least
+sub-others c = omega (arith, c .pre .m-least)
 
 cast-others : tie.Need-cast-others
 cast-others c = omega (arith, c .pre .m-most)
@@ -26,7 +30,7 @@ cast-t8 c =
 mul-t11 : tie.Need-mul-t11
 mul-t11 c =
     let at-start = c .before in
-    omega (arith, random-few at-start)
+    random-few (at-start .pre .found-most) (omega (arith, at-start .pre .m-most))
 
 returns : tie.Need-returns
 returns c =
@@ -46,7 +50,7 @@ cast-t13 c =
 mul-t16 : tie.Need-mul-t16
 mul-t16 c =
     let at-start = c .before in
-    omega (arith, random-few at-start)
+    random-few (at-start .pre .found-most) (omega (arith, at-start .pre .m-most))
 
 returns-2 : tie.Need-returns-2
 returns-2 c =
