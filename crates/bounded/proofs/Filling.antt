@@ -1,5 +1,5 @@
--- Slices written from the front, one entry or one list after the other.
---     fill-more, fill-whole      one entry more; all entries
+-- Slices written from the front, to their end or one list after the other.
+--     fill-whole                 all entries
 --     table-more                 one row more of a table
 -- Assumes nothing.
 use mathlib.Core.Path.{_≡_, ap, _∙_}
@@ -11,14 +11,6 @@ use lib.Seq.{drop-cons, drop-length, set-at}
 use borrow.Rule.Slice.PartMut.{putMid}
 use Rattle.model.specs.Words.{row, table, over}
 use Rattle.laws.specs.Lists.{row-length, table-length, over-more}
-
-pub fill-more : (f : ℕ → ℕ) (q : ℕ) (lent : List ℕ) → q < length lent
-    → set (over (row f q) lent) q (f q) ≡ over (row f (suc q)) lent
-unfolding over row
-fill-more f q lent h =
-    rw (length-append, row-length f q, drop-cons lent q 0 h)
-    (set-at (row f q) (getD lent q 0) (drop (suc q) lent) (f q) q (row-length f q)
-    ∙ rw (append-assoc, add-one))
 
 pub fill-whole : (f : ℕ → ℕ) (lent : List ℕ) → over (row f (length lent)) lent ≡ row f (length lent)
 unfolding over

@@ -1,5 +1,4 @@
 -- The items one after the other: the first k of those below d, and then of those below d + 1.
---     bound-asks                     what a bound asks of an item after p rows
 --     held-none, held-met, held-unmet    of no item; of one item more, that is met or not
 --     listed-none, listed-met, listed-unmet      the same in the three slices
 --     listed-most                    there are at most k
@@ -19,25 +18,9 @@ use Rattle.laws.specs.Ahead.{never}
 use Rattle.laws.specs.Ranking.{take-insert}
 use Rattle.laws.specs.Kept.{kept-item}
 use Rattle.meeting.specs.Contracts.{Located, Small}
-use Rattle.bounded.specs.Bar.{held}
-use Rattle.bounded.specs.Contracts.{View, boundOf, metOf, heldOf, Legible, Inserted, Listed}
-
-pub bound-asks : {v : View} {p : ℕ} (d : ℕ) → Legible v p → d < v .n
-    → Located (v .m) (v .n) d p (v .scores) (v .work) × Small (v .weights) (v .scores)
-bound-asks d w h = (
-  record {
-    m-most = w .m-most;
-    n-most = w .n-most;
-    item-small = h;
-    depth-least = w .row-least;
-    depth-most = w .row-most;
-    scores-long = w .scores-long;
-    work-long = w .work-long;
-    place-least = λ i hi. w .place-least i d hi h;
-    place-most = λ i hi. w .place-most i d hi h;
-  },
-  record { weights-small = w .weights-small; scores-small = w .scores-small },
-)
+use Rattle.halting.specs.Bar.{held}
+use Rattle.halting.specs.Contracts.{View, boundOf, metOf, Legible}
+use Rattle.bounded.specs.Contracts.{heldOf, Inserted, Listed}
 
 module _ (v : View) (k p : ℕ) where
   held-none : heldOf v k p 0 ≡ []

@@ -2,12 +2,10 @@
 --     Filling    slices written from the front
 --     Keeping    one item into the shortlist
 --     Items      the items one after the other
---     Marks      items' marks, the k-th low, and the test by it
 --     Narrowing  the search for the row after which NRA stops
 --     Reading    what the code reads is what the definitions say; the run as a whole
 mod Filling
 mod Keeping
 mod Items
-mod Marks
 mod Narrowing
 mod Reading

@@ -1,5 +1,4 @@
 -- The search for the row after which NRA stops: the rows before `from` are behind it, and it is `to` or a row before that.
---     at-row                 what reading asks after row p, from what it asks after another
 --     Narrowing              what is known while rows are tried
 --     narrowing-starts, narrowing-down, narrowing-up, narrowing-ends     at the start; where a row's test holds; where it fails; at the end
 -- Assumes nothing.
@@ -7,22 +6,8 @@ use mathlib.Core.Path.{_≡_, _∙_}
 use mathlib.Core.Bool.{true, false}
 use Prim.Native.Nat.{ℕ, suc, _+_, _≤_, _<_}
 use native.Mathlib.Omega.{arith}
-use Rattle.bounded.specs.Contracts.{View, haltsOf, Legible, Halted}
-
-pub at-row : {v : View} {r : ℕ} → Legible v r → (p : ℕ) → 1 ≤ p → p ≤ v .n → Legible v p
-at-row w p least most =
-    record {
-      m-most = w .m-most;
-      n-most = w .n-most;
-      row-least = least;
-      row-most = most;
-      scores-long = w .scores-long;
-      work-long = w .work-long;
-      place-least = w .place-least;
-      place-most = w .place-most;
-      weights-small = w .weights-small;
-      scores-small = w .scores-small;
-    }
+use Rattle.halting.specs.Contracts.{View, haltsOf, Legible}
+use Rattle.bounded.specs.Contracts.{Halted}
 
 -- While rows are tried
 pub record Narrowing (v : View) (k from to : ℕ) : Type 0 where

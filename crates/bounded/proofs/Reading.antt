@@ -26,9 +26,10 @@ use Rattle.laws.specs.Kept.{kept-item}
 use Rattle.lists.specs.Contracts.{poses}
 use Rattle.meeting.specs.Contracts.{queryWith, Readable, Room, readAt, unread}
 use Rattle.bounded.specs.Depth.{tally-deep, read-deep, met-deep}
-use Rattle.bounded.specs.Bar.{held, halts}
+use Rattle.halting.specs.Bar.{held, halts}
 use Rattle.bounded.specs.Stops.{kept-held, stops-halts, rows-are}
-use Rattle.bounded.specs.Contracts.{View, view, boundOf, metOf, heldOf, haltsOf, Legible, Listed, Halted, Finished}
+use Rattle.halting.specs.Contracts.{View, view, boundOf, metOf, haltsOf, Legible}
+use Rattle.bounded.specs.Contracts.{heldOf, Listed, Halted, Finished}
 
 -- ---- equal lows, highs and met items
 module _ (n k : ℕ) (low high low′ high′ : ℕ → ℕ) (met met′ : ℕ → Bool)

@@ -23,7 +23,7 @@ use Rattle.laws.specs.Ahead.{ahead-ordering, ahead-low}
 use Rattle.laws.specs.Kept.{kept-others}
 use Rattle.laws.specs.Accepted.{Valid}
 use Rattle.bounded.specs.Depth.{met-stays, all-met, low-whole, low-rises, high-falls, low-most}
-use Rattle.bounded.specs.Bar.{held, halts, halts-stay}
+use Rattle.halting.specs.Bar.{held, halts, halts-stay}
 
 module _ (s : Poses) (q : Query) (k : ℕ) where
   pub kept-held : (p : ℕ) → kept s k (NRA s q) p ≡ held (s .n) k (lowNRA s q p) (highNRA s q p) (met s (rowsNRA s p))

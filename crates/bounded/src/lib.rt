@@ -1,11 +1,10 @@
 // NRA: the search by bounds. Once its test holds after a row it holds after every later row, so the row
 // after which it stops is found by trying few rows: 1, 3, 7, .. and then between the last two.
-mod bar;
 mod shortlist;
 mod tally;
 
-use bar::halts;
-use bar::seen;
+use halting::halts;
+use halting::seen;
 use meeting::bound;
 use shortlist::keep;
 use tally::fill_tally;
@@ -13,7 +12,8 @@ ghost use mathlib.Core.Path.{_≡_};
 ghost use Prim.Native.Nat.{_≤_, _<_};
 ghost use Rattle.lists.specs.Contracts.{poses};
 ghost use Rattle.meeting.specs.Contracts.{queryWith, Readable, Room};
-ghost use Rattle.bounded.specs.Contracts.{view, Legible, Spaced, Keeps, Listed, Considered, Halted, Finished};
+ghost use Rattle.halting.specs.Contracts.{view, Legible};
+ghost use Rattle.bounded.specs.Contracts.{Spaced, Keeps, Listed, Considered, Halted, Finished};
 
 fn narrow(x: usize) -> u16
     requires { ⌜ x < 65536 ⌝ }

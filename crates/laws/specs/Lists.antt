@@ -12,6 +12,7 @@
 --     over-length, over-at               a slice written over keeps its length; what stands in its first part
 --     over-map-at, over-beyond           the same of a mapped list; what stands past the first part
 --     over-more                          after l, as many entries as ys has
+--     fill-more                          one entry more in a slice that is filled from its start
 --     over-over, over-taken              a list written over one that is as long; the first part read back
 --     zeros-at                           an entry of zeros, or past their end
 -- Assumes nothing.
@@ -26,7 +27,7 @@ use native.Mathlib.Omega.{arith}
 use lib.Dec.{eqb, ltb}
 use borrow.Author.Tests.{eqb-true, eqb-false, eq-eqb, ltb-true, ltb-false}
 use lib.ListN.{length, getD, set, take, drop, take-append-drop, replicate, length-append, length-drop, length-map, length-set, replicate-append-replicate, List·getD-append}
-use lib.Seq.{ext-getD, length-take-le, drop-drop, drop-append-add, drop-append-seam, take-append-seam, getD-take, getD-append-add, getD-append-seam, getD-set-same, getD-set-other}
+use lib.Seq.{ext-getD, drop-cons, set-at, length-take-le, drop-drop, drop-append-add, drop-append-seam, take-append-seam, getD-take, getD-append-add, getD-append-seam, getD-set-same, getD-set-other}
 use borrow.Rule.Slice.PartMut.{putMid}
 use Rattle.model.specs.Words.{count, row, table, over}
 use Rattle.laws.specs.Tests.{by-cases, below-suc, and-yes}
@@ -246,6 +247,13 @@ over-more l ys s a e la le =
     let front : take a (l ++ drop (length l) s) ≡ l = rw (← la) (take-append-seam l (drop (length l) s)) in
     let rest : drop a (l ++ drop (length l) s) ≡ drop (length l) s = rw (← la) (drop-append-seam l (drop (length l) s)) in
     rw (front, rest, size, drop-drop, length-append) (sym (append-assoc l ys (drop (length l + length ys) s)))
+
+pub fill-more : (f : ℕ → ℕ) (q : ℕ) (lent : List ℕ) → q < length lent → set (over (row f q) lent) q (f q) ≡ over (row f (suc q)) lent
+unfolding over row
+fill-more f q lent h =
+    rw (length-append, row-length f q, drop-cons lent q 0 h)
+    (set-at (row f q) (getD lent q 0) (drop (suc q) lent) (f q) q (row-length f q)
+    ∙ rw (append-assoc, add-one))
 
 pub over-over : (l k s : List ℕ) → length l ≡ length k → over l (over k s) ≡ over l s
 unfolding over

@@ -1,6 +1,5 @@
 -- What the two reads promise, in each of their ways out.
 --     query-refused, query-taken     a query that is refused; that is read
---     fill-more                      one entry more in a slice that is filled from its start
 --     Sizes, sizes-read              what is known of the sizes once they are read
 --     lists-refused                  lists that are refused by their head
 --     items-short, scores-short      that are refused by 6
@@ -39,16 +38,6 @@ module _ (b : List ℕ) where
   pub query-taken : (k c : ℕ) → queryHead b ≡ accepted → k ≡ pair b 6 → c ≡ queryCount b → QueryIsRead b (queryOf k c)
   unfolding readQuery queryAnswer queryRule queryK
   query-taken k c passes k-is c-is = record { answers = rw (passes, k-is, c-is) }
-
--- ---- a slice that is filled from its start
-module _ (f : ℕ → ℕ) (j : ℕ) (lent : List ℕ) where
-  pub fill-more : j < length lent → set (over (row f j) lent) j (f j) ≡ over (row f (j + 1)) lent
-  unfolding over row
-  fill-more h =
-      rw (add-one j, length-append, row-length f j)
-      (ap (λ (l : List ℕ). set (row f j ++ l) j (f j)) (drop-cons lent j 0 h)
-      ∙ set-at (row f j) (getD lent j 0) (drop (suc j) lent) (f j) j (row-length f j)
-      ∙ rw (add-one j) (sym (append-snoc (row f j) (f j) (drop (suc j) lent))))
 
 -- ---- lists
 -- m and n are the sizes of a list record that passes: m x n is small, and the bytes are head, house weights and m x n entries

@@ -3,8 +3,9 @@
 use borrow.Author.Needs.{needs}
 use mathlib.Core.Path.{_≡_, sym, _∙_}
 use mathlib.Core.Bool.{true}
-use Rattle.bounded.specs.Contracts.{boundOf, metOf, view}
-use Rattle.bounded.proofs.Items.{bound-asks, listed-met, listed-unmet}
+use Rattle.halting.specs.Contracts.{boundOf, metOf, view}
+use Rattle.halting.specs.Contracts.{bound-asks}
+use Rattle.bounded.proofs.Items.{listed-met, listed-unmet}
 use Rattle.bounded.proofs.consider.Statement.{statement}
 use Rattle.bounded.proofs.consider.Tie as tie
 

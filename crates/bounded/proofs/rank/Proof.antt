@@ -5,7 +5,8 @@ use mathlib.Core.Path.{_≡_, refl, _∙_}
 use Prim.Native.Nat.{_-_, _≤_}
 use native.Mathlib.Omega.{arith}
 use lib.ListN.{length}
-use Rattle.bounded.specs.Contracts.{view, Listed}
+use Rattle.halting.specs.Contracts.{view}
+use Rattle.bounded.specs.Contracts.{Listed}
 use Rattle.bounded.proofs.Items.{listed-none, listed-most}
 use Rattle.bounded.proofs.rank.Statement.{statement}
 use Rattle.bounded.proofs.rank.Tie as tie

@@ -4,8 +4,9 @@
 use mathlib.Core.Path.{sym, _∙_}
 use Prim.Native.Nat.{_-_}
 use native.Mathlib.Omega.{arith}
-use Rattle.bounded.specs.Contracts.{view}
-use Rattle.bounded.proofs.Narrowing.{at-row, Narrowing, narrowing-starts, narrowing-down, narrowing-up, narrowing-ends}
+use Rattle.halting.specs.Contracts.{view}
+use Rattle.halting.specs.Contracts.{at-row}
+use Rattle.bounded.proofs.Narrowing.{Narrowing, narrowing-starts, narrowing-down, narrowing-up, narrowing-ends}
 use Rattle.bounded.proofs.stopping_row.Statement.{statement}
 use Rattle.bounded.proofs.stopping_row.Tie as tie
 

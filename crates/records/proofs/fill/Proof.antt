@@ -3,12 +3,13 @@
 -- Assumes nothing.
 use mathlib.Core.Path.{_≡_, refl}
 use Prim.Native.Nat.{_-_, _≤_, _<_}
+use native.Mathlib.Numerals.{add-one}
 use native.Mathlib.Omega.{arith}
 use lib.ListN.{length, length-set}
 use borrow.Author.Needs.{needs}
 use Rattle.model.specs.Words.{row, over}
 use Rattle.records.specs.Contracts.{everyFourth}
-use Rattle.records.proofs.Reading.{fill-more}
+use Rattle.laws.specs.Lists.{fill-more}
 use Rattle.records.proofs.fill.Statement.{statement}
 use Rattle.records.proofs.fill.Tie as tie
 
@@ -55,7 +56,7 @@ loop-again c =
     let room : at-loop .j < length (at-start .args .slice .now) = omega (arith, at-start .pre .room) in (
       search needs,
       simp length-set (at-loop .inv .1),
-      rw (at-loop .inv .2, c .pair-at .ensures .0) (fill-more f (at-loop .j) (at-start .args .slice .now) room),
+      rw (at-loop .inv .2, c .pair-at .ensures .0, add-one (at-loop .j)) (fill-more f (at-loop .j) (at-start .args .slice .now) room),
     )
 
 same-length : tie.Need-same-length Inv-loop μ-loop

@@ -10,7 +10,8 @@ use lib.Dec.{ltb}
 use lib.ListN.{length, length-set}
 use Rattle.model.specs.Words.{row as rowOf, over}
 use Rattle.laws.specs.Lookups.{once}
-use Rattle.bounded.proofs.Filling.{fill-more, fill-whole}
+use Rattle.laws.specs.Lists.{fill-more}
+use Rattle.bounded.proofs.Filling.{fill-whole}
 use Rattle.bounded.proofs.tally.fill_list.Statement.{statement}
 use Rattle.bounded.proofs.tally.fill_list.Tie as tie
 

@@ -1,4 +1,4 @@
--- `bounded::bar::parted` meets its contract. The loop's invariant: none of the items passed stands in the way, and the count is that of
+-- `halting::parted` meets its contract. The loop's invariant: none of the items passed stands in the way, and the count is that of
 -- their highs above the bar; the measure is how many items are left.
 -- Assumes nothing.
 use mathlib.Core.Path.{_≡_, refl, sym, _∙_}
@@ -11,12 +11,12 @@ use borrow.Author.Tests.{not-true, not-false}
 use Rattle.model.specs.Words.{everyBelow}
 use Rattle.laws.specs.Tests.{by-cases, every-at}
 use Rattle.laws.specs.Passing.{passing, passing-most}
-use Rattle.bounded.specs.Bar.{parts}
-use Rattle.bounded.specs.Contracts.{View, view, boundOf, metOf, partsOf}
-use Rattle.bounded.proofs.Items.{bound-asks}
-use Rattle.bounded.proofs.Marks.{once-most, blocks-not}
-use Rattle.bounded.proofs.bar.parted.Statement.{statement}
-use Rattle.bounded.proofs.bar.parted.Tie as tie
+use Rattle.halting.specs.Bar.{parts}
+use Rattle.halting.specs.Contracts.{View, view, boundOf, metOf, partsOf}
+use Rattle.halting.specs.Contracts.{bound-asks}
+use Rattle.halting.proofs.Marks.{once-most, blocks-not}
+use Rattle.halting.proofs.parted.Statement.{statement}
+use Rattle.halting.proofs.parted.Tie as tie
 
 -- an item's part of the test; its high is above the bar
 abbrev passesOf : View → ℕ → ℕ → ℕ → Bool

@@ -24,8 +24,8 @@ use Rattle.laws.specs.Passing.{passing, passing-same, passing-none, passing-wid
 use Rattle.laws.specs.Ahead.{never}
 use Rattle.laws.specs.Overall.{joined-rises, joined-most, product-most}
 use Rattle.meeting.specs.Contracts.{readAt, unread}
-use Rattle.bounded.specs.Bar.{held, halts-parted, parts-halts}
-use Rattle.bounded.specs.Contracts.{View, boundOf, metOf, haltsOf, Legible, markOf, Marked, reachOf, Barred, partsOf}
+use Rattle.halting.specs.Bar.{held, halts-parted, parts-halts}
+use Rattle.halting.specs.Contracts.{View, boundOf, metOf, haltsOf, Legible, markOf, Marked, reachOf, Barred, partsOf}
 
 -- what stands for a local score that is not read
 unread-most : (high : Bool) (n : ℕ) (scores : List ℕ) (p i : ℕ) → ((j : ℕ) → getD scores j 0 ≤ 65535)

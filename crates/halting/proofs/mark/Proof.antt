@@ -1,14 +1,14 @@
--- `bounded::bar::mark` meets its contract: a met item's low and one more, and 0 of any other.
+-- `halting::mark` meets its contract: a met item's low and one more, and 0 of any other.
 -- Assumes nothing.
 use borrow.Author.Needs.{needs}
 use mathlib.Core.Path.{_≡_, sym, _∙_}
 use mathlib.Core.Bool.{true, false}
 use native.Mathlib.Omega.{arith}
-use Rattle.bounded.specs.Contracts.{view, boundOf, metOf, markOf}
-use Rattle.bounded.proofs.Items.{bound-asks}
-use Rattle.bounded.proofs.Marks.{bound-most}
-use Rattle.bounded.proofs.bar.mark.Statement.{statement}
-use Rattle.bounded.proofs.bar.mark.Tie as tie
+use Rattle.halting.specs.Contracts.{view, boundOf, metOf, markOf}
+use Rattle.halting.specs.Contracts.{bound-asks}
+use Rattle.halting.proofs.Marks.{bound-most}
+use Rattle.halting.proofs.mark.Statement.{statement}
+use Rattle.halting.proofs.mark.Tie as tie
 
 seen-requires : tie.Need-seen-requires
 seen-requires c κs = search needs

@@ -1,8 +1,8 @@
--- `bounded::bar::blocks` meets its contract.
+-- `halting::blocks` meets its contract.
 -- Assumes nothing.
 use borrow.Author.Tests.{lt-ltb, le-ltb}
-use Rattle.bounded.proofs.bar.blocks.Statement.{statement}
-use Rattle.bounded.proofs.bar.blocks.Tie as tie
+use Rattle.halting.proofs.blocks.Statement.{statement}
+use Rattle.halting.proofs.blocks.Tie as tie
 
 returns : tie.Need-returns
 returns c =

@@ -1,4 +1,4 @@
--- `bounded::bar::reach` meets its contract. The loop's invariant: the count is that of the marks passed; the measure is how many are left.
+-- `halting::reach` meets its contract. The loop's invariant: the count is that of the marks passed; the measure is how many are left.
 -- Assumes nothing.
 use mathlib.Core.Path.{_≡_, refl}
 use Prim.Native.Nat.{_-_, _≤_}
@@ -7,10 +7,10 @@ use native.Mathlib.Omega.{arith}
 use lib.Dec.{ltb}
 use lib.ListN.{getD}
 use Rattle.laws.specs.Passing.{passing, passing-most}
-use Rattle.bounded.specs.Contracts.{reachOf}
-use Rattle.bounded.proofs.Marks.{once-most}
-use Rattle.bounded.proofs.bar.reach.Statement.{statement}
-use Rattle.bounded.proofs.bar.reach.Tie as tie
+use Rattle.halting.specs.Contracts.{reachOf}
+use Rattle.halting.proofs.Marks.{once-most}
+use Rattle.halting.proofs.reach.Statement.{statement}
+use Rattle.halting.proofs.reach.Tie as tie
 
 abbrev Inv-loop : tie.InvT-loop
 Inv-loop n bar marks count₀ d₀ count d = (d ≤ n) × (count ≡ reachOf d marks bar)

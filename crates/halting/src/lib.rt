@@ -9,7 +9,7 @@ ghost use lib.Dec.{leb, ltb};
 ghost use lib.ListN.{length, getD};
 ghost use Rattle.model.specs.Words.{someBelow};
 ghost use Rattle.laws.specs.Lookups.{once};
-ghost use Rattle.bounded.specs.Contracts.{view, markOf, reachOf, partsOf, haltsOf, Legible, Marked, Barred};
+ghost use Rattle.halting.specs.Contracts.{view, markOf, reachOf, partsOf, haltsOf, Legible, Marked, Barred};
 
 // Item d is met after p rows: in one list its position is at most p.
 pub fn seen(d: usize, p: usize, m: usize, n: usize, work: &[u16]) -> bool

@@ -1,4 +1,4 @@
--- `bounded::bar::note_marks` meets its contract. The loop's invariant: the marks of the items passed are written; the measure is how
+-- `halting::note_marks` meets its contract. The loop's invariant: the marks of the items passed are written; the measure is how
 -- many are left.
 -- Assumes nothing.
 use mathlib.Core.Path.{_≡_, refl}
@@ -7,11 +7,11 @@ use native.Mathlib.Numerals.{add-one}
 use native.Mathlib.Omega.{arith}
 use lib.ListN.{length, length-set}
 use Rattle.model.specs.Words.{row, over}
-use Rattle.bounded.specs.Contracts.{view, markOf}
-use Rattle.bounded.proofs.Filling.{fill-more}
-use Rattle.bounded.proofs.Marks.{marked}
-use Rattle.bounded.proofs.bar.note_marks.Statement.{statement}
-use Rattle.bounded.proofs.bar.note_marks.Tie as tie
+use Rattle.halting.specs.Contracts.{view, markOf}
+use Rattle.laws.specs.Lists.{fill-more}
+use Rattle.halting.proofs.Marks.{marked}
+use Rattle.halting.proofs.note_marks.Statement.{statement}
+use Rattle.halting.proofs.note_marks.Tie as tie
 
 abbrev Inv-loop : tie.InvT-loop
 Inv-loop p m n rule weights scores work marks₀ d₀ marks d =

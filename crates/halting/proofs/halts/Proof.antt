@@ -1,13 +1,13 @@
--- `bounded::bar::halts` meets its contract: with fewer than k items met the test fails, else it is told by the highest bar that k marks
+-- `halting::halts` meets its contract: with fewer than k items met the test fails, else it is told by the highest bar that k marks
 -- are above.
 -- Assumes nothing.
 use borrow.Author.Needs.{needs}
 use mathlib.Core.Path.{_∙_}
 use native.Mathlib.Omega.{arith}
-use Rattle.bounded.proofs.Marks.{reach-none, halts-few, halts-barred}
-use Rattle.bounded.proofs.Narrowing.{at-row}
-use Rattle.bounded.proofs.bar.halts.Statement.{statement}
-use Rattle.bounded.proofs.bar.halts.Tie as tie
+use Rattle.halting.proofs.Marks.{reach-none, halts-few, halts-barred}
+use Rattle.halting.specs.Contracts.{at-row}
+use Rattle.halting.proofs.halts.Statement.{statement}
+use Rattle.halting.proofs.halts.Tie as tie
 
 slice-aggregate-note-marks : tie.Need-slice-aggregate-note-marks
 slice-aggregate-note-marks c = search needs

@@ -1,4 +1,4 @@
--- `bounded::bar::seen` meets its contract. The loop's invariant: in none of the lists passed is the position at most p; the measure is
+-- `halting::seen` meets its contract. The loop's invariant: in none of the lists passed is the position at most p; the measure is
 -- how many lists are left.
 -- Assumes nothing.
 use mathlib.Core.Path.{_≡_, refl, sym}
@@ -12,8 +12,8 @@ use borrow.Author.Tests.{le-leb, lt-leb}
 use Rattle.model.specs.Words.{someBelow}
 use Rattle.laws.specs.Tests.{some-hit}
 use Rattle.laws.specs.Lists.{table-room}
-use Rattle.bounded.proofs.bar.seen.Statement.{statement}
-use Rattle.bounded.proofs.bar.seen.Tie as tie
+use Rattle.halting.proofs.seen.Statement.{statement}
+use Rattle.halting.proofs.seen.Tie as tie
 
 abbrev Inv-loop : tie.InvT-loop
 Inv-loop d p m n work i₀ i = (i ≤ m) × (someBelow (λ i. leb (getD work (i * n + d) 0) p) i ≡ false)

@@ -1,12 +1,12 @@
--- `bounded::bar::highest_bar` meets its contract. The loop's invariant: k marks are above the bar and fewer than k above the top; the
+-- `halting::highest_bar` meets its contract. The loop's invariant: k marks are above the bar and fewer than k above the top; the
 -- measure is how far apart they are.
 -- Assumes nothing.
 use mathlib.Core.Path.{_≡_}
 use Prim.Native.Nat.{suc, _-_, _≤_, _<_}
 use native.Mathlib.Omega.{arith}
-use Rattle.bounded.specs.Contracts.{reachOf}
-use Rattle.bounded.proofs.bar.highest_bar.Statement.{statement}
-use Rattle.bounded.proofs.bar.highest_bar.Tie as tie
+use Rattle.halting.specs.Contracts.{reachOf}
+use Rattle.halting.proofs.highest_bar.Statement.{statement}
+use Rattle.halting.proofs.highest_bar.Tie as tie
 
 abbrev Inv-loop : tie.InvT-loop
 Inv-loop n k marks bar₀ top₀ bar top = (bar < top) × (top ≤ 1073741824) × (k ≤ reachOf n marks bar) × (reachOf n marks top < k)

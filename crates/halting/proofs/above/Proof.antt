@@ -1,8 +1,8 @@
--- `bounded::bar::above` meets its contract.
+-- `halting::above` meets its contract.
 -- Assumes nothing.
 use borrow.Author.Tests.{lt-ltb, le-ltb}
-use Rattle.bounded.proofs.bar.above.Statement.{statement}
-use Rattle.bounded.proofs.bar.above.Tie as tie
+use Rattle.halting.proofs.above.Statement.{statement}
+use Rattle.halting.proofs.above.Tie as tie
 
 returns : tie.Need-returns
 returns c =
