@@ -12,8 +12,7 @@ use Rattle.model.specs.Words.{everyBelow}
 use Rattle.laws.specs.Tests.{by-cases, every-at}
 use Rattle.laws.specs.Passing.{passing, passing-most}
 use Rattle.halting.specs.Bar.{parts}
-use Rattle.halting.specs.Contracts.{View, view, boundOf, metOf, partsOf}
-use Rattle.halting.specs.Contracts.{bound-asks}
+use Rattle.halting.specs.Contracts.{View, view, boundOf, metOf, partsOf, at-row, bound-asks}
 use Rattle.halting.proofs.Marks.{once-most, blocks-not}
 use Rattle.halting.proofs.parted.Statement.{statement}
 use Rattle.halting.proofs.parted.Tie as tie
@@ -41,7 +40,8 @@ bound-requires : tie.Need-bound-requires Inv-loop μ-loop
 bound-requires c κs =
     let at-loop = c .before in
     let at-start = c .before .before .before .before .before in
-    bound-asks (at-loop .loop .d) (at-start .pre .0) (c .loop-test .taken)
+    let read = at-start .pre .0 in
+    bound-asks (at-loop .loop .d) (at-row read _ (omega (arith, read .row-least, read .row-most)) (omega (arith, read .row-most))) (c .loop-test .taken)
 
 mul-blocks : tie.Need-mul-blocks Inv-loop μ-loop
 mul-blocks c =
