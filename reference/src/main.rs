@@ -12,6 +12,11 @@ const USAGE: &str = "usage: reference preview < input
        reference run < cases
        reference titles";
 
+/// The two files by the names under which the crate of a program holds what it is run on and what
+/// it must write.
+const CASES: &str = "stdin";
+const EXPECTED: &str = "stdout";
+
 fn main() -> ExitCode {
     let arguments: Vec<String> = std::env::args().skip(1).collect();
     let words: Vec<&str> = arguments.iter().map(String::as_str).collect();
@@ -54,9 +59,9 @@ fn print_preview() -> Result<(), String> {
 
 fn write_cases(folder: &Path) -> Result<(), String> {
     let recorded = cases::all();
-    write_file(&folder.join("cases"), &cases::cases_file(&recorded))?;
+    write_file(&folder.join(CASES), &cases::cases_file(&recorded))?;
     let expected = cases::expected_file(&recorded);
-    write_file(&folder.join("expected"), expected.as_bytes())
+    write_file(&folder.join(EXPECTED), expected.as_bytes())
 }
 
 fn write_file(path: &Path, bytes: &[u8]) -> Result<(), String> {
@@ -71,13 +76,13 @@ fn read_file(path: &Path) -> Result<Vec<u8>, String> {
 fn check_cases(folder: &Path) -> Result<(), String> {
     let recorded = cases::all();
     let cases = cases::cases_file(&recorded);
-    let found = read_file(&folder.join("cases"))?;
+    let found = read_file(&folder.join(CASES))?;
     if let Some(at) = first_difference(&found, &cases) {
         let case = named(&recorded, case_at(&cases, at));
-        return Err(format!("cases differs at byte {at}, in {case}"));
+        return Err(format!("{CASES} differs at byte {at}, in {case}"));
     }
     let expected = cases::expected_file(&recorded);
-    let found = read_file(&folder.join("expected"))?;
+    let found = read_file(&folder.join(EXPECTED))?;
     if let Some(at) = first_difference(&found, expected.as_bytes()) {
         return Err(difference_of_lines(&recorded, &found, &expected, at));
     }
@@ -125,7 +130,7 @@ fn difference_of_lines(recorded: &[Recorded], found: &[u8], made: &str, at: usiz
         None => "nothing".to_string(),
     };
     format!(
-        "expected differs at line {}, in {case}:\n  there: {}\n  made:  {}",
+        "{EXPECTED} differs at line {}, in {case}:\n  there: {}\n  made:  {}",
         line + 1,
         text_of(&found),
         text_of(made)

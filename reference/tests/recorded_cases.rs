@@ -51,20 +51,20 @@ fn check_accepts_what_cases_writes_and_names_the_first_difference() {
     let folder = Folder::new("reference-check");
     assert!(folder.reference("cases").status.success());
     assert!(folder.reference("check").status.success());
-    folder.change("expected", |bytes| bytes.push(b'\n'));
+    folder.change("stdout", |bytes| bytes.push(b'\n'));
     assert!(folder.complaint().contains("made:  nothing"));
     assert!(folder.reference("cases").status.success());
     // The first number of the first answer.
-    folder.change("expected", |bytes| bytes[7] += 1);
+    folder.change("stdout", |bytes| bytes[7] += 1);
     assert!(folder
         .complaint()
-        .starts_with("expected differs at line 2, in case 1 (TA: A)"));
-    folder.change("cases", |bytes| bytes[1] = 1);
+        .starts_with("stdout differs at line 2, in case 1 (TA: A)"));
+    folder.change("stdin", |bytes| bytes[1] = 1);
     assert!(folder
         .complaint()
-        .starts_with("cases differs at byte 1, in case 1 (TA: A)"));
+        .starts_with("stdin differs at byte 1, in case 1 (TA: A)"));
     assert!(folder.reference("cases").status.success());
-    folder.change("cases", |bytes| bytes.push(0));
+    folder.change("stdin", |bytes| bytes.push(0));
     assert!(folder.complaint().contains("after the last case"));
 }
 

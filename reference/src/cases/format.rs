@@ -1,9 +1,10 @@
 //! The format of the two files.
 //!
-//! `cases` is a sequence of records with nothing between them. All numbers are big-endian; after
+//! `stdin` is a sequence of records with nothing between them. All numbers are big-endian; after
 //! the name of a field stands how many bytes it has. Each record is its kind (1), then:
 //!
-//! - kind 1, the previewer: length (4), that many bytes of input;
+//! - kind 1, the previewer: length (4), that many bytes. They are what stands on its standard input,
+//!   of which it takes at most 33,312: a case may hold more;
 //! - kind 2, a search: which (1: 0 TA, 1 BPA, 2 BPA2, 3 NRA), m (8), n (8), rule (1), k (8), count
 //!   of weight bytes (2), those bytes, count of items (2), items (2 each), count of scores (2),
 //!   scores (2 each), then the lengths of picks, lows, highs, tally and work (2 each);
@@ -23,7 +24,7 @@
 //! - highs: 3,100,000,000 + j;
 //! - tally: 200 + j % 50.
 //!
-//! `expected` has for each case the line `case N`, N from 1, and then:
+//! `stdout` has for each case the line `case N`, N from 1, and then:
 //!
 //! - kind 1: the previewer's output;
 //! - kind 2: a line number list position rows sorted direct random; a slice line for each of picks,

@@ -133,7 +133,7 @@ pub fn all() -> Vec<Recorded> {
     cases
 }
 
-/// The binary file.
+/// The binary file, `stdin`.
 pub fn cases_file(recorded: &[Recorded]) -> Vec<u8> {
     recorded
         .iter()
@@ -141,7 +141,7 @@ pub fn cases_file(recorded: &[Recorded]) -> Vec<u8> {
         .collect()
 }
 
-/// The text file: what a program that runs the cases must print.
+/// The text file, `stdout`: what a program that runs the cases must print.
 pub fn expected_file(recorded: &[Recorded]) -> String {
     recorded
         .iter()

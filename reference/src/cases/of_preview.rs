@@ -52,12 +52,11 @@ fn worked_sets() -> Vec<Recorded> {
 
 fn cut_inputs() -> Vec<Recorded> {
     let whole = joined(&query_of_a(), &lists_of_b());
-    let mut cases: Vec<Recorded> = (0..whole.len())
-        .map(|length| {
-            let title = format!("A, cut to {length} bytes");
-            preview_case(&title, whole[..length].to_vec())
-        })
-        .collect();
+    let mut cases = vec![preview_case("no input at all", Vec::new())];
+    cases.extend((1..whole.len()).map(|length| {
+        let title = format!("A, cut to {length} bytes");
+        preview_case(&title, whole[..length].to_vec())
+    }));
     let own = joined(&query_record(0, 2, &[1, 2, 3]), &lists_of_b());
     for length in [8, 9, 10, 14, 15, 16, 22, 23] {
         let title = format!("A with own weights, cut to {length} bytes");
@@ -106,6 +105,8 @@ fn refused_lists() -> Vec<Recorded> {
         ("n 4 for 5", with_byte(&lists, 7, 4)),
         ("n 1,029", with_byte(&lists, 6, 4)),
         ("none", Vec::new()),
+        ("7 bytes", with_length_field(&lists[..7], 3)),
+        ("8 bytes", with_length_field(&lists[..8], 4)),
         ("m 8, n 1", list_record(&OwnedSet::flat(8, 1, 9), &[1; 8])),
         ("m 9, n 1", list_record(&OwnedSet::flat(9, 1, 9), &[1; 9])),
         (
@@ -275,6 +276,9 @@ fn sets_at_the_limit() -> Vec<Recorded> {
         at_the_limit(Shape::Ties, 1, 100, &[]),
         at_the_limit(Shape::AllEqual, 2, 512, &[1_000; 8]),
     ];
+    let mut input = joined(&query_of_a(), &greatest_lists());
+    input.truncate(20_000);
+    cases.push(preview_case("m 8, n 1,024, cut in list 5", input));
     let highest = list_record(&OwnedSet::flat(8, 1_024, 65_535), &[1_000; 8]);
     let input = joined(&query_record(0, 3, &[]), &highest);
     cases.push(preview_case("the greatest overall score", input));

@@ -74,6 +74,8 @@ fn cut_queries() -> Vec<Titled> {
             )
         })
         .collect();
+    let head_alone = query_record(1, 4, &[]);
+    cut.push(titled("c 0, cut by one byte", head_alone[..8].to_vec()));
     let greatest = query_record(0, 1, &[1; 255]);
     cut.push(titled("c 255, cut by one byte", greatest[..518].to_vec()));
     cut.push(titled(
@@ -96,6 +98,11 @@ fn refused_queries() -> Vec<Titled> {
     for count in [0, 2, 4, 131, 255] {
         let bytes = with_byte(&query, 8, count);
         refused.push((format!("c {count} for length 11"), bytes));
+    }
+    let greatest = query_record(0, 1, &[1; 255]);
+    for length in [514, 516] {
+        let bytes = with_length_field(&greatest, length);
+        refused.push((format!("length {length} for c 255"), bytes));
     }
     refused
 }
@@ -261,10 +268,46 @@ fn list_slice_cases() -> Vec<Recorded> {
         let title = format!("flat, m 1, n {n} into {slice}");
         cases.push(list_case(&title, flat_record(1, n), slice, slice));
     }
+    let greatest = greatest_lists();
+    let cut = greatest[..greatest.len() - 1].to_vec();
+    cases.push(list_case("m 8, n 1,024", greatest, 8_192, 8_193));
+    cases.push(list_case(
+        "m 8, n 1,024, cut by one byte",
+        cut,
+        8_192,
+        8_192,
+    ));
+    cases.extend(lists_cut_in_the_middle());
+    cases
+}
+
+fn greatest_lists() -> Vec<u8> {
     let mut generator = Generator::seeded(4);
-    let greatest = random_set(&mut generator, Shape::Uniform, 8, 1_024);
-    let bytes = list_record(&greatest, &[1_000; 8]);
-    cases.push(list_case("m 8, n 1,024", bytes, 8_192, 8_193));
+    let set = random_set(&mut generator, Shape::Uniform, 8, 1_024);
+    list_record(&set, &[1_000; 8])
+}
+
+/// A record of m 2, n 40 cut within an entry, between two and between the lists, once with the
+/// length kept and once with a length that fits what is left.
+fn lists_cut_in_the_middle() -> Vec<Recorded> {
+    let mut generator = Generator::seeded(8);
+    let set = random_set(&mut generator, Shape::Uniform, 2, 40);
+    let whole = list_record(&set, &[3, 4]);
+    let mut cases = vec![list_case("m 2, n 40", whole.clone(), 80, 80)];
+    for (title, length) in [
+        ("within list 1", 90),
+        ("between two entries of list 1", 92),
+        ("between the lists", 172),
+        ("within list 2", 251),
+        ("by one entry", 328),
+        ("by one byte", 331),
+    ] {
+        let (kept, fitting) = (&whole[..length], length as u32 - 4);
+        let title = format!("m 2, n 40, cut {title}");
+        cases.push(list_case(&title, kept.to_vec(), 80, 80));
+        let title = format!("{title}, its length fitting");
+        cases.push(list_case(&title, with_length_field(kept, fitting), 80, 80));
+    }
     cases
 }
 

@@ -357,19 +357,22 @@ const SLICES_BEFORE_LATER_TESTS: [Edit; 7] = [
     }),
 ];
 
-/// m = 8 with n = 1,024. The last makes TA and BPA read everything: 65,536 accesses.
+/// m = 8 with n = 1,024. The last makes TA and BPA read everything: 65,536 accesses, and has no
+/// place to spare in any slice.
 fn sets_at_the_limit(which: u8) -> Vec<Recorded> {
     let mut generator = Generator::seeded(8_192);
     let weights = generator.weights(8);
-    let mut at_the_limit = |shape, rule, k, weights: &[u16]| {
+    let mut on_a_set = |shape, rule, k, weights: &[u16]| {
         let set = random_set(&mut generator, shape, 8, 1_024);
-        let call = SearchCase::on(which, &set, rule, k, weights);
-        search_case(&format!("m 8, n 1,024, k {k}, {shape:?}"), call)
+        SearchCase::on(which, &set, rule, k, weights)
     };
+    let uniform = on_a_set(Shape::Uniform, 0, 20, &weights);
+    let against = on_a_set(Shape::AntiCorrelated, 1, 10, &[1_000; 8]);
+    let same = on_a_set(Shape::SameLists, 0, 1_024, &[1_000; 8]).in_exact_slices();
     vec![
-        at_the_limit(Shape::Uniform, 0, 20, &weights),
-        at_the_limit(Shape::AntiCorrelated, 1, 10, &[1_000; 8]),
-        at_the_limit(Shape::SameLists, 0, 1_024, &[1_000; 8]),
+        search_case("m 8, n 1,024, k 20, Uniform", uniform),
+        search_case("m 8, n 1,024, k 10, AntiCorrelated", against),
+        search_case("m 8, n 1,024, k 1,024, SameLists, exact slices", same),
     ]
 }
 
