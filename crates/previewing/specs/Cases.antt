@@ -32,7 +32,7 @@ use Rattle.records.specs.Heads.{lists-held, query-from-11, query-from-12, query
 use Rattle.records.specs.Settled.{query-zero, lists-zero}
 use Rattle.admission.specs.Contracts.{lentWith}
 use Rattle.admission.specs.Shapes.{Flat}
-use Rattle.previewing.specs.Alike.{Alike, alike-printing}
+use Rattle.lines.specs.Alike.{Alike, alike-printing}
 
 -- ---- a refusal of a record carries 0, 0
 flat-test : (x : ℕ) (b : Bool) (later : Verdict) → Flat later → Flat (x when b then later)

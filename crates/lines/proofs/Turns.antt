@@ -13,10 +13,10 @@ use Rattle.model.specs.Refusals.{Verdict, accepted, Lent, searchVerdict}
 use Rattle.model.specs.Answers.{told}
 use Rattle.text.specs.Contracts.{Appended}
 use Rattle.text.specs.Appending.{appended-none, appended-is, appended-then}
-use Rattle.previewing.specs.declared.Line.{Line}
-use Rattle.previewing.specs.Contracts.{lineRoom, oneLine, linesTo, LineMade, Lines}
-use Rattle.previewing.specs.Alike.{Alike, alike-verdict, alike-one}
-use Rattle.previewing.specs.Lines.{one-refused, told-accepted, lines-next, lines-four}
+use Rattle.lines.specs.declared.Line.{Line}
+use Rattle.lines.specs.Contracts.{lineRoom, oneLine, linesTo, LineMade, Lines}
+use Rattle.lines.specs.Alike.{Alike, alike-verdict, alike-one}
+use Rattle.lines.specs.Lines.{one-refused, told-accepted, lines-next, lines-four}
 
 -- The lines of the first so many searches stand at the start of the slice; after the first, no search is refused
 pub record SoFar (which : ℕ) (l : Lent) (before : List ℕ) (at : ℕ) (out : List ℕ) : Type 0 where

@@ -16,7 +16,7 @@ use Rattle.model.specs.Answers.{found, searchOf, answering, answer}
 use Rattle.model.specs.Program.{nameTA, nameBPA, nameBPA2, nameNRA, answerLine, searchLine, fourLines, printing}
 use Rattle.admission.specs.Contracts.{lentWith, shape-is}
 use Rattle.running.specs.Contracts.{searchAt}
-use Rattle.previewing.specs.Contracts.{nameAt, lineOr, oneLine}
+use Rattle.lines.specs.Contracts.{nameAt, lineOr, oneLine}
 
 -- Two calls that differ at most in what stands in the slices to be written
 pub record Alike (a b : Lent) : Type 0 where

@@ -19,10 +19,10 @@ use Rattle.searches.specs.Answered.{Searched}
 use Rattle.searches.specs.Promises.{accepted-call}
 use Rattle.text.specs.Contracts.{Appended, placesAt}
 use Rattle.text.specs.Appending.{appended-is}
-use Rattle.previewing.specs.declared.Line.{Line}
+use Rattle.lines.specs.declared.Line.{Line}
 use Rattle.running.specs.Contracts.{searchAt}
-use Rattle.previewing.specs.Contracts.{nameAt, lineRoom, AnswerRoom, AnswerWritten, LineMade}
-use Rattle.previewing.specs.Lines.{Held, text-refused, text-found, refused-short, found-short, answer-line}
+use Rattle.lines.specs.Contracts.{nameAt, lineRoom, AnswerRoom, AnswerWritten, LineMade}
+use Rattle.lines.specs.Lines.{Held, text-refused, text-found, refused-short, found-short, answer-line}
 
 module _ (which : ℕ) (a : Answer) (k : ℕ) {picks lows highs before after : List ℕ} {at end : ℕ} (held : Held a picks lows highs) where
   pub refusal-written : (a .number ≡ 0 → ⊥) → Appended (refusedLine (a .number) (a .list) (a .position)) before at after end

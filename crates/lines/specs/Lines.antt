@@ -32,7 +32,7 @@ use Rattle.text.specs.Contracts.{placesAt}
 use Rattle.text.specs.Places.{places-are}
 use Rattle.text.specs.Lines.{refused-most, line-most}
 use Rattle.running.specs.Contracts.{searchAt}
-use Rattle.previewing.specs.Contracts.{nameAt, lineRoom, answerText, lineOr, oneLine, linesTo}
+use Rattle.lines.specs.Contracts.{nameAt, lineRoom, answerText, lineOr, oneLine, linesTo}
 
 -- ---- the shortlist
 -- what each of the four owes, by its number

@@ -1,4 +1,4 @@
--- `previewing::search_lines` meets its contract. The loop's invariant: the lines of the searches so far stand at the start of the
+-- `lines::search_lines` meets its contract. The loop's invariant: the lines of the searches so far stand at the start of the
 -- slice, none of them too long, and after the first no search is refused; the slices lent to a search keep their lengths, so what
 -- it answers is what it would have answered at the start. The measure is how many searches are left.
 -- Assumes nothing.
@@ -8,10 +8,10 @@ use native.Mathlib.Omega.{arith}
 use borrow.Author.Needs.{needs}
 use Rattle.admission.specs.Contracts.{lentWith}
 use Rattle.text.specs.Appending.{appended-length}
-use Rattle.previewing.specs.Alike.{Alike, alike-itself, alike-kept}
-use Rattle.previewing.proofs.Turns.{SoFar, so-far-none, so-far-next, so-far-refused, so-far-all}
-use Rattle.previewing.proofs.search_lines.Statement.{statement}
-use Rattle.previewing.proofs.search_lines.Tie as tie
+use Rattle.lines.specs.Alike.{Alike, alike-itself, alike-kept}
+use Rattle.lines.proofs.Turns.{SoFar, so-far-none, so-far-next, so-far-refused, so-far-all}
+use Rattle.lines.proofs.search_lines.Statement.{statement}
+use Rattle.lines.proofs.search_lines.Tie as tie
 
 abbrev Inv-loop : tie.InvT-loop
 Inv-loop asked weights items scores picks₀ lows₀ highs₀ tally₀ work₀ out₀ at₀ which₀ picks lows highs tally work out at which =

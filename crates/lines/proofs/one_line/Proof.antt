@@ -1,11 +1,11 @@
--- `previewing::one_line` meets its contract: what the search leaves in the three slices is its shortlist, and the answer with it
+-- `lines::one_line` meets its contract: what the search leaves in the three slices is its shortlist, and the answer with it
 -- makes the search's line.
 -- Assumes nothing.
 use mathlib.Core.Path.{refl}
 use borrow.Author.Needs.{needs}
-use Rattle.previewing.proofs.Writing.{answer-room, line-made}
-use Rattle.previewing.proofs.one_line.Statement.{statement}
-use Rattle.previewing.proofs.one_line.Tie as tie
+use Rattle.lines.proofs.Writing.{answer-room, line-made}
+use Rattle.lines.proofs.one_line.Statement.{statement}
+use Rattle.lines.proofs.one_line.Tie as tie
 
 search-requires : tie.Need-search-requires
 search-requires c κs = search needs
