@@ -25,6 +25,112 @@ struct Room {
     work: usize,
 }
 
+// BPA2 for 2, else NRA.
+fn not_ta_or_bpa(
+    q: Query,
+    items: &[u16],
+    scores: &[u16],
+    weights: &[u8],
+    picks: &mut [u16],
+    lows: &mut [u32],
+    highs: &mut [u32],
+    tally: &mut [u8],
+    work: &mut [u16],
+) -> Answer {
+    if q.which == 2 {
+        return searches::bpa2(
+            q.m,
+            q.n,
+            items,
+            scores,
+            q.rule,
+            q.k,
+            weights,
+            picks,
+            lows,
+            highs,
+            tally,
+            work,
+        );
+    }
+    searches::nra(
+        q.m,
+        q.n,
+        items,
+        scores,
+        q.rule,
+        q.k,
+        weights,
+        picks,
+        lows,
+        highs,
+        tally,
+        work,
+    )
+}
+
+// BPA for 1, or one of those after it.
+fn not_ta(
+    q: Query,
+    items: &[u16],
+    scores: &[u16],
+    weights: &[u8],
+    picks: &mut [u16],
+    lows: &mut [u32],
+    highs: &mut [u32],
+    tally: &mut [u8],
+    work: &mut [u16],
+) -> Answer {
+    if q.which == 1 {
+        return searches::bpa(
+            q.m,
+            q.n,
+            items,
+            scores,
+            q.rule,
+            q.k,
+            weights,
+            picks,
+            lows,
+            highs,
+            tally,
+            work,
+        );
+    }
+    not_ta_or_bpa(q, items, scores, weights, picks, lows, highs, tally, work)
+}
+
+// The search that a case names: TA for 0, or one of the others.
+fn named(
+    q: Query,
+    items: &[u16],
+    scores: &[u16],
+    weights: &[u8],
+    picks: &mut [u16],
+    lows: &mut [u32],
+    highs: &mut [u32],
+    tally: &mut [u8],
+    work: &mut [u16],
+) -> Answer {
+    if q.which == 0 {
+        return searches::ta(
+            q.m,
+            q.n,
+            items,
+            scores,
+            q.rule,
+            q.k,
+            weights,
+            picks,
+            lows,
+            highs,
+            tally,
+            work,
+        );
+    }
+    not_ta(q, items, scores, weights, picks, lows, highs, tally, work)
+}
+
 // The lines of a search.
 fn show(
     number: u32,
@@ -56,21 +162,7 @@ fn in_slices(
     tally: &mut [u8],
     work: &mut [u16],
 ) {
-    let answer = searches::search(
-        q.which,
-        q.m,
-        q.n,
-        items,
-        scores,
-        q.rule,
-        q.k,
-        weights,
-        picks,
-        lows,
-        highs,
-        tally,
-        work,
-    );
+    let answer = named(q, items, scores, weights, picks, lows, highs, tally, work);
     show(number, answer, picks, lows, highs, tally, work);
 }
 
