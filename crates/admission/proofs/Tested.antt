@@ -18,10 +18,12 @@ module _ (m n rule k : ℕ) (weights items scores : List ℕ) (picks lows highs 
   shape = shapeOf m n rule k weights (length items) (length scores) picks lows highs tally (length work)
 
   -- the shape of whatever slices of these lengths are lent
-  shape-of : (a b c t : List ℕ) → length a ≡ picks → length b ≡ lows → length c ≡ highs → length t ≡ tally → searchShape (lentWith m n rule k weights items scores a b c t work) ≡ shape
+  shape-of : (a b c t : List ℕ) → length a ≡ picks → length b ≡ lows → length c ≡ highs → length t ≡ tally
+      → searchShape (lentWith m n rule k weights items scores a b c t work) ≡ shape
   shape-of a b c t ea eb ec et = shape-is (lentWith m n rule k weights items scores a b c t work) ∙ rw (ea, eb, ec, et)
 
-  pub admitted-refused : r .number ≡ told shape .number → r .list ≡ 0 → r .position ≡ 0 → (r .number ≡ 0 → ⊥) → Admitted m n rule k weights items scores picks lows highs tally work r work
+  pub admitted-refused : r .number ≡ told shape .number → r .list ≡ 0 → r .position ≡ 0 → (r .number ≡ 0 → ⊥)
+      → Admitted m n rule k weights items scores picks lows highs tally work r work
   unfolding searchVerdict workAfter
   admitted-refused number list position bad =
       let flat = flat-shape m n rule k weights (length items) (length scores) picks lows highs tally (length work) in
@@ -37,7 +39,8 @@ module _ (m n rule k : ℕ) (weights items scores : List ℕ) (picks lows highs 
         shaped = λ z. absurd (bad z);
       })
 
-  pub admitted-checked : {after : List ℕ} → told shape .number ≡ 0 → ListsChecked (poses m n items scores) work r after → Admitted m n rule k weights items scores picks lows highs tally work r after
+  pub admitted-checked : {after : List ℕ} → told shape .number ≡ 0 → ListsChecked (poses m n items scores) work r after
+      → Admitted m n rule k weights items scores picks lows highs tally work r after
   unfolding searchVerdict workAfter posesOf
   admitted-checked none lists =
       let all : shape ≡ accepted = told-zero shape (numbered-shape m n rule k weights (length items) (length scores) picks lows highs tally (length work)) none in

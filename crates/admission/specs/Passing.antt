@@ -26,7 +26,9 @@ pub record Passed (m n rule k : ℕ) (weights items scores : List ℕ) (picks lo
   pub tally-long : m * n ≤ tally
   pub shaped : shapeOf m n rule k weights (length items) (length scores) picks lows highs tally (length work) ≡ accepted
 
-pub passed : {m n rule k : ℕ} {weights items scores : List ℕ} {picks lows highs tally : ℕ} {work : List ℕ} {r : Checked} {after : List ℕ} → Admitted m n rule k weights items scores picks lows highs tally work r after → r .number ≡ 0 → Passed m n rule k weights items scores picks lows highs tally work after
+pub passed : {m n rule k : ℕ} {weights items scores : List ℕ} {picks lows highs tally : ℕ} {work : List ℕ} {r : Checked} {after : List ℕ}
+    → Admitted m n rule k weights items scores picks lows highs tally work r after → r .number ≡ 0
+    → Passed m n rule k weights items scores picks lows highs tally work after
 passed {m} {n} {rule} {k} {weights} {items} {scores} {picks} {lows} {highs} {tally} {work} a none =
     let all = a .shaped none in
     let h = shape-told m n rule k weights (length items) (length scores) picks lows highs tally (length work) all in

@@ -172,7 +172,9 @@ numbered-search l =
     (numbered-lists (posesOf l))
 
 -- the list check lets pass what passed a search's tests
-pub check-shape : (m n rule k : ℕ) (weights items scores work : List ℕ) (picks lows highs tally : ℕ) → Shape m n rule k weights (length items) (length scores) picks lows highs tally (length work) → checkShape (poses m n items scores) work ≡ accepted
+pub check-shape : (m n rule k : ℕ) (weights items scores work : List ℕ) (picks lows highs tally : ℕ)
+    → Shape m n rule k weights (length items) (length scores) picks lows highs tally (length work)
+    → checkShape (poses m n items scores) work ≡ accepted
 unfolding checkShape noLists short
 check-shape m n rule k weights items scores work picks lows highs tally h =
     rw (h .sizes, le-ltb (length items) (m * n) (h .items-long), le-ltb (length scores) (m * n) (h .scores-long), le-ltb (length work) (m * n) (h .work-long))

@@ -238,7 +238,8 @@ same-answer a b e =
     }
 
 -- "the answer of this search on this case is this", for each row of a table that passes the test
-pub rows-hold : (table : List Row) → everyRight table ≡ true → (r : Row) → List·Memᴰ r table → answer (r .search) (r .lent) ≡ r .expected
+pub rows-hold : (table : List Row) → everyRight table ≡ true → (r : Row) → List·Memᴰ r table
+    → answer (r .search) (r .lent) ≡ r .expected
 unfolding everyRight right
 rows-hold [] e r h = absurd (List·Memᴰ·not-nil h)
 rows-hold (x ∷ l) e r h =

@@ -129,7 +129,8 @@ place-of n (suc m) x h =
     (m, x - m * n, omega arith, omega (arith, ltb-false x (m * n) z), omega (arith, ltb-false x (m * n) z)))
 
 -- two lists that are as long as a table and have its entries
-table-is : (f : ℕ → ℕ → ℕ) (n m : ℕ) (l : List ℕ) → length l ≡ m * n → ((i d : ℕ) → i < m → d < n → getD l (i * n + d) 0 ≡ f i d) → l ≡ table f n m
+table-is : (f : ℕ → ℕ → ℕ) (n m : ℕ) (l : List ℕ) → length l ≡ m * n
+    → ((i d : ℕ) → i < m → d < n → getD l (i * n + d) 0 ≡ f i d) → l ≡ table f n m
 table-is f n m l size h =
     ext-getD 0 l (table f n m) (size ∙ sym (table-length f n m))
     (λ x hx.
@@ -137,7 +138,8 @@ table-is f n m l size h =
     rw (r .4) (h (r .0) (r .1) (r .2) (r .3) ∙ sym (table-at f n m (r .0) (r .1) 0 (r .2) (r .3))))
 
 -- a store into a table: the function is changed at one place
-pub table-set : (f : ℕ → ℕ → ℕ) (n m i d v : ℕ) → i < m → d < n → set (table f n m) (i * n + d) v ≡ table (λ j e. cond (eqb i j && eqb d e) v (f j e)) n m
+pub table-set : (f : ℕ → ℕ → ℕ) (n m i d v : ℕ) → i < m → d < n
+    → set (table f n m) (i * n + d) v ≡ table (λ j e. cond (eqb i j && eqb d e) v (f j e)) n m
 table-set f n m i d v hi hd =
     let g : ℕ → ℕ → ℕ = λ j e. cond (eqb i j && eqb d e) v (f j e) in
     let inside : i * n + d < length (table f n m) = omega (arith, table-length f n m, table-room i m n hi) in
@@ -180,21 +182,24 @@ count-most t (a ∷ l) =
     (λ (n : t a ≡ false). rw n (omega (arith, count-most t l)))
 
 -- a store that makes an entry pass, where none passed before
-pub count-set : {A : Type 0} (t : A → Bool) (l : List A) (d : ℕ) (v x : A) → d < length l → t (getD l d x) ≡ false → t v ≡ true → count t (set l d v) ≡ count t l + 1
+pub count-set : {A : Type 0} (t : A → Bool) (l : List A) (d : ℕ) (v x : A) → d < length l → t (getD l d x) ≡ false
+    → t v ≡ true → count t (set l d v) ≡ count t l + 1
 unfolding count
 count-set t [] d v x h n y = absurd (not-suc-le-zero h)
 count-set t (a ∷ l) zero v x h n y = rw (n, y) (omega arith)
 count-set t (a ∷ l) (suc d) v x h n y = rw (count-set t l d v x (le-of-suc-le-suc h) n y) (omega arith)
 
 -- as many passing as there are entries: the first passes, and so do the others
-count-full-cons : {A : Type 0} (t : A → Bool) (a : A) (l : List A) → count t (a ∷ l) ≡ suc (length l) → (t a ≡ true) × (count t l ≡ length l)
+count-full-cons : {A : Type 0} (t : A → Bool) (a : A) (l : List A) → count t (a ∷ l) ≡ suc (length l)
+    → (t a ≡ true) × (count t l ≡ length l)
 unfolding count
 count-full-cons t a l e =
     by-cases (t a)
     (λ (y : t a ≡ true). let e′ : 1 + count t l ≡ suc (length l) = rw y at e in (y, omega arith))
     (λ (n : t a ≡ false). let e′ : 0 + count t l ≡ suc (length l) = rw n at e in absurd (omega (arith, count-most t l)))
 
-pub count-full : {A : Type 0} (t : A → Bool) (l : List A) (d : ℕ) (x : A) → count t l ≡ length l → d < length l → t (getD l d x) ≡ true
+pub count-full : {A : Type 0} (t : A → Bool) (l : List A) (d : ℕ) (x : A) → count t l ≡ length l → d < length l
+    → t (getD l d x) ≡ true
 count-full t [] d x e h = absurd (not-suc-le-zero h)
 count-full t (a ∷ l) zero x e h = count-full-cons t a l e .0
 count-full t (a ∷ l) (suc d) x e h = count-full t l d x (count-full-cons t a l e .1) (le-of-suc-le-suc h)
@@ -248,7 +253,8 @@ over-more l ys s a e la le =
     let rest : drop a (l ++ drop (length l) s) ≡ drop (length l) s = rw (← la) (drop-append-seam l (drop (length l) s)) in
     rw (front, rest, size, drop-drop, length-append) (sym (append-assoc l ys (drop (length l + length ys) s)))
 
-pub fill-more : (f : ℕ → ℕ) (q : ℕ) (lent : List ℕ) → q < length lent → set (over (row f q) lent) q (f q) ≡ over (row f (suc q)) lent
+pub fill-more : (f : ℕ → ℕ) (q : ℕ) (lent : List ℕ) → q < length lent
+    → set (over (row f q) lent) q (f q) ≡ over (row f (suc q)) lent
 unfolding over row
 fill-more f q lent h =
     rw (length-append, row-length f q, drop-cons lent q 0 h)

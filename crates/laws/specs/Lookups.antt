@@ -34,7 +34,8 @@ pub times-one : (k : Kind) (i p j q : ℕ) → times (access k i p ∷ []) j q �
 unfolding times count
 times-one k i p j q = omega arith
 
-pub times-cons : (k : Kind) (i p : ℕ) (tr : List Access) (j q : ℕ) → times (access k i p ∷ tr) j q ≡ once (eqb i j && eqb p q) + times tr j q
+pub times-cons : (k : Kind) (i p : ℕ) (tr : List Access) (j q : ℕ)
+    → times (access k i p ∷ tr) j q ≡ once (eqb i j && eqb p q) + times tr j q
 unfolding times count
 times-cons k i p tr j q = refl
 
@@ -49,7 +50,8 @@ ltb-suc-other j b h =
     (λ (z : ltb j b ≡ false). rw (z, le-ltb j (suc b) (omega (arith, ltb-false j b z))))
 
 -- the random accesses in the first b lists: one in list j at d's place, unless j is the list in which d was found
-randoms-times : (s : Poses) (d i b j q : ℕ) → times (randoms s d i b) j q ≡ once (ltb j b && (not (eqb j i) && eqb (place s j d) q))
+randoms-times : (s : Poses) (d i b j q : ℕ)
+    → times (randoms s d i b) j q ≡ once (ltb j b && (not (eqb j i) && eqb (place s j d) q))
 unfolding randoms
 randoms-times s d i zero j q = rw (le-ltb j 0 (omega arith)) (times-none j q)
 randoms-times s d i (suc b) j q =
@@ -62,7 +64,8 @@ randoms-times s d i (suc b) j q =
     let apart : j ≡ b → ⊥ = eqb-false j b z in
     rw (ltb-suc-other j b apart, out-of-last b (λ (e : b ≡ j). apart (sym e))) (omega arith)))
   where
-    in-last : (b : ℕ) → 0 + times (cond (eqb b i) [] (access random b (place s b d) ∷ [])) b q ≡ once (not (eqb b i) && eqb (place s b d) q)
+    in-last : (b : ℕ)
+        → 0 + times (cond (eqb b i) [] (access random b (place s b d) ∷ [])) b q ≡ once (not (eqb b i) && eqb (place s b d) q)
     in-last b =
         by-cases (eqb b i)
         (λ (y : eqb b i ≡ true). rw (y, times-none b q))
@@ -74,7 +77,8 @@ randoms-times s d i (suc b) j q =
         (λ (y : eqb b i ≡ true). rw (y, times-none j q))
         (λ (z : eqb b i ≡ false). rw (z, times-one random b (place s b d) j q, ne-eqb b j apart))
 
-pub lookup-times : (s : Poses) → Valid s → (k : Kind) (i p j q : ℕ) → i < s .m → p < s .n → j < s .m → times (lookup s k i p) j q ≡ once (eqb (place s j (item s i p)) q)
+pub lookup-times : (s : Poses) → Valid s → (k : Kind) (i p j q : ℕ) → i < s .m → p < s .n → j < s .m
+    → times (lookup s k i p) j q ≡ once (eqb (place s j (item s i p)) q)
 unfolding lookup
 lookup-times s v k i p j q hi hp hj =
     rw (times-cons k i p (randoms s (item s i p) i (s .m)) j q, randoms-times s (item s i p) i (s .m) j q, lt-ltb j (s .m) hj)
@@ -127,17 +131,20 @@ unfolding made count
 made-cons k a i p tr = refl
 
 -- a lookup by a sorted or direct access makes one access of that kind
-pub lookup-made-own : (s : Poses) (k : Kind) (i p : ℕ) → sameKind random k ≡ false → sameKind k k ≡ true → made k (lookup s k i p) ≡ 1
+pub lookup-made-own : (s : Poses) (k : Kind) (i p : ℕ) → sameKind random k ≡ false → sameKind k k ≡ true
+    → made k (lookup s k i p) ≡ 1
 unfolding lookup
 lookup-made-own s k i p h same = rw (made-cons k k i p (randoms s (item s i p) i (s .m)), randoms-other s k (item s i p) i (s .m) h, same)
 
 -- none of another kind that is not random
-pub lookup-made-other : (s : Poses) (k a : Kind) (i p : ℕ) → sameKind random k ≡ false → sameKind a k ≡ false → made k (lookup s a i p) ≡ 0
+pub lookup-made-other : (s : Poses) (k a : Kind) (i p : ℕ) → sameKind random k ≡ false → sameKind a k ≡ false
+    → made k (lookup s a i p) ≡ 0
 unfolding lookup
 lookup-made-other s k a i p h other = rw (made-cons k a i p (randoms s (item s i p) i (s .m)), randoms-other s k (item s i p) i (s .m) h, other)
 
 -- and a random one in each other list
-pub lookup-made-random : (s : Poses) (a : Kind) (i p : ℕ) → sameKind a random ≡ false → i < s .m → made random (lookup s a i p) + 1 ≡ s .m
+pub lookup-made-random : (s : Poses) (a : Kind) (i p : ℕ) → sameKind a random ≡ false → i < s .m
+    → made random (lookup s a i p) + 1 ≡ s .m
 unfolding lookup
 lookup-made-random s a i p h hi =
     let all : made random (randoms s (item s i p) i (s .m)) + 1 ≡ s .m = rw (lt-ltb i (s .m) hi) at (randoms-made s (item s i p) i (s .m)) in

@@ -39,7 +39,8 @@ module _ (s : Poses) (v : Valid s) where
       rw z (ne-eqb (place s i d) (place s i e) (λ same. eqb-false d e z (same-place i d e hi hd he same))))
 
   -- what a lookup adds at an item's place
-  pub lookup-at : (k : Kind) (i p j e : ℕ) → i < s .m → p < s .n → j < s .m → e < s .n → times (lookup s k i p) j (place s j e) ≡ once (eqb (item s i p) e)
+  pub lookup-at : (k : Kind) (i p j e : ℕ) → i < s .m → p < s .n → j < s .m → e < s .n
+      → times (lookup s k i p) j (place s j e) ≡ once (eqb (item s i p) e)
   lookup-at k i p j e hi hp hj he =
       rw (lookup-times s v k i p j (place s j e) hi hp hj, place-eqb j (item s i p) e hj (v .is-item i p hi hp) he)
 
@@ -77,7 +78,8 @@ module _ (s : Poses) (v : Valid s) where
         (λ i hi. ap (leb 1) (w .alike i d hi hd) ∙ z)))
 
   -- after a lookup the item that it found is met too, and no other
-  pub met-more : {tr : List Access} → Whole s tr → (k : Kind) (i p e : ℕ) → i < s .m → p < s .n → e < s .n → met s (tr ++ lookup s k i p) e ≡ (met s tr e || eqb e (item s i p))
+  pub met-more : {tr : List Access} → Whole s tr → (k : Kind) (i p e : ℕ) → i < s .m → p < s .n → e < s .n
+      → met s (tr ++ lookup s k i p) e ≡ (met s tr e || eqb e (item s i p))
   met-more {tr} w k i p e hi hp he =
       rw (met-is w e he, met-is (whole-more w k i p hi hp) e he, times-append tr (lookup s k i p) 0 (place s 0 e), lookup-at k i p 0 e hi hp list-one he)
       (one-more (times tr 0 (place s 0 e)) (item s i p) e)

@@ -135,7 +135,8 @@ first-within t f p q l e =
     (λ y. leb-true (first t f p) q y)
     (λ n. absurd (true≢false (sym e ∙ first-skips t f p q l (leb-false (first t f p) q n))))
 
-pub first-is : (t : ℕ → Bool) (f p q : ℕ) → p ≤ q → q < p + f → t q ≡ true → ((r : ℕ) → p ≤ r → r < q → t r ≡ false) → first t f p ≡ q
+pub first-is : (t : ℕ → Bool) (f p q : ℕ) → p ≤ q → q < p + f → t q ≡ true → ((r : ℕ) → p ≤ r → r < q → t r ≡ false)
+    → first t f p ≡ q
 first-is t f p q l h e none =
     by-cases (ltb (first t f p) q)
     (λ y.

@@ -57,7 +57,8 @@ first-refusal-none f (suc n) i e h =
     (λ (q : i ≡ n). rw q (then-second (firstRefusal f n) (f n) e))
 
 -- the first i pass and i refuses: that is the answer, however many follow
-pub first-refusal-at : (f : ℕ → Verdict) (n i : ℕ) {x j p : ℕ} → firstRefusal f i ≡ accepted → f i ≡ refused x j p → i < n → firstRefusal f n ≡ refused x j p
+pub first-refusal-at : (f : ℕ → Verdict) (n i : ℕ) {x j p : ℕ} → firstRefusal f i ≡ accepted → f i ≡ refused x j p
+    → i < n → firstRefusal f n ≡ refused x j p
 unfolding firstRefusal
 first-refusal-at f zero i a r h = absurd (not-suc-le-zero h)
 first-refusal-at f (suc n) i a r h =

@@ -37,7 +37,8 @@ module _ (s : Poses) (lent : List ℕ) where
   rows-start = record { within = omega arith; none-refused = refl; rows-are = refl }
 
   module _ {work : List ℕ} {i : ℕ} (w : RowsNoted work i) where
-    pub rows-go-on : (own : List ℕ) → i < s .m → inList s i ≡ accepted → own ≡ row (λ d. place s i d + 1) (s .n) → RowsNoted (putMid (i * s .n) (i * s .n + s .n - i * s .n) work own) (i + 1)
+    pub rows-go-on : (own : List ℕ) → i < s .m → inList s i ≡ accepted → own ≡ row (λ d. place s i d + 1) (s .n)
+        → RowsNoted (putMid (i * s .n) (i * s .n + s .n - i * s .n) work own) (i + 1)
     unfolding firstRefusal table
     rows-go-on own h passes e =
         let f : ℕ → ℕ → ℕ = λ j d. place s j d + 1 in
@@ -51,7 +52,9 @@ module _ (s : Poses) (lent : List ℕ) where
         }
 
     -- the refusal of list i is the answer; what its row was left at lies within the first m x n entries
-    pub rows-stop : (own : List ℕ) {r : Checked} → i < s .m → valueOf r ≡ told (inList s i) → (r .number ≡ 0 → ⊥) → length own ≡ s .n → s .m * s .n ≤ length work → ListsNoted s lent r (putMid (i * s .n) (i * s .n + s .n - i * s .n) work own)
+    pub rows-stop : (own : List ℕ) {r : Checked} → i < s .m → valueOf r ≡ told (inList s i) → (r .number ≡ 0 → ⊥)
+        → length own ≡ s .n → s .m * s .n ≤ length work
+        → ListsNoted s lent r (putMid (i * s .n) (i * s .n + s .n - i * s .n) work own)
     unfolding inLists
     rows-stop own h says bad long room =
         let reach = table-room i (s .m) (s .n) h in

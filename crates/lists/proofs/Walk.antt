@@ -93,25 +93,29 @@ module _ (s : Poses) (i : ℕ) where
               before-is = rw add-one;
             }
 
-  pub walk-ends : {notes : List ℕ} {before : ℕ} → Walked notes before (s .n) → (inList s i ≡ accepted) × (notes ≡ row (λ d. place s i d + 1) (s .n))
+  pub walk-ends : {notes : List ℕ} {before : ℕ} → Walked notes before (s .n)
+      → (inList s i ≡ accepted) × (notes ≡ row (λ d. place s i d + 1) (s .n))
   unfolding inList
   walk-ends w =
       let passes : inList s i ≡ accepted = w .none-refused in
       (passes, w .notes-are ∙ row-same (noted (item s i) (s .n)) (λ d. place s i d + 1) (s .n) (noted-place s i passes))
 
 -- How many lists there are does not matter to one of them
-one-list : (m n : ℕ) (items scores : List ℕ) (i : ℕ) {v : Verdict} → inList (poses 0 n items scores) i ≡ v → inList (poses m n items scores) i ≡ v
+one-list : (m n : ℕ) (items scores : List ℕ) (i : ℕ) {v : Verdict} → inList (poses 0 n items scores) i ≡ v
+    → inList (poses m n items scores) i ≡ v
 unfolding inList fault notItem stoodEarlier rises item score
 one-list m n items scores i e = e
 
-pub list-refused : {i n x j q : ℕ} {items scores after : List ℕ} {r : Checked} → valueOf r ≡ told (refused x j q) → inList (poses 0 n items scores) i ≡ refused x j q → ListNoted i n items scores r after
+pub list-refused : {i n x j q : ℕ} {items scores after : List ℕ} {r : Checked} → valueOf r ≡ told (refused x j q)
+    → inList (poses 0 n items scores) i ≡ refused x j q → ListNoted i n items scores r after
 list-refused {i} {n} {x} {j} {q} {items} {scores} says e =
     record {
       answers = λ m. says ∙ ap told (sym (one-list m n items scores i e));
       notes = λ m a. absurd (accepted≢refused (sym a ∙ one-list m n items scores i e));
     }
 
-pub list-passed : {i n before : ℕ} {items scores after : List ℕ} {r : Checked} → valueOf r ≡ told accepted → Walked (poses 0 n items scores) i after before n → ListNoted i n items scores r after
+pub list-passed : {i n before : ℕ} {items scores after : List ℕ} {r : Checked} → valueOf r ≡ told accepted
+    → Walked (poses 0 n items scores) i after before n → ListNoted i n items scores r after
 unfolding place item
 list-passed {i} {n} {before} {items} {scores} says w =
     let end = walk-ends (poses 0 n items scores) i w in

@@ -43,7 +43,8 @@ module _ (s : Poses) (work : List ℕ) where
       unfolding checkShape short
       shape-passes h = rw (sized, lists-long, le-ltb (length work) (s .m * s .n) h)
 
-  pub refused-by-shape : {x : ℕ} {r : Checked} → checkShape s work ≡ refused x 0 0 → valueOf r ≡ told (refused x 0 0) → ListsChecked s work r work
+  pub refused-by-shape : {x : ℕ} {r : Checked} → checkShape s work ≡ refused x 0 0 → valueOf r ≡ told (refused x 0 0)
+      → ListsChecked s work r work
   unfolding checked checkVerdict checkedWork workAfter
   refused-by-shape e says = record { answers = rw e says; leaves = rw e }
 
@@ -54,7 +55,8 @@ module _ (s : Poses) (work : List ℕ) where
         let all = told-zero (inLists s) (numbered-lists s) (sym (ap (λ (t : Told). t .number) (p .answers)) ∙ none) in
         record { answers = rw shape (p .answers); leaves = rw (shape, all) (p .notes all) }
 
-    pub refused-lists : (cleared : List ℕ) → (r .number ≡ 0 → ⊥) → cleared ≡ replicate (s .m * s .n) 0 ++ drop (s .m * s .n) after → ListsChecked s work r cleared
+    pub refused-lists : (cleared : List ℕ) → (r .number ≡ 0 → ⊥)
+        → cleared ≡ replicate (s .m * s .n) 0 ++ drop (s .m * s .n) after → ListsChecked s work r cleared
     unfolding checked checkVerdict checkedWork workAfter workChecked over
     refused-lists cleared bad e =
         by-verdict (inLists s)

@@ -26,11 +26,13 @@ pub value-one-to-one : (r t : Checked) → valueOf r ≡ valueOf t → r ≡ t
 value-one-to-one r t e = λ j. record { number = e j .number; list = e j .list; position = e j .position }
 
 -- any two results that meet the contract coincide
-pub check-settles : {s : Poses} {work a b : List ℕ} {r t : Checked} → ListsChecked s work r a → ListsChecked s work t b → (r ≡ t) × (a ≡ b)
+pub check-settles : {s : Poses} {work a b : List ℕ} {r t : Checked} → ListsChecked s work r a → ListsChecked s work t b
+    → (r ≡ t) × (a ≡ b)
 check-settles {s} {work} {a} {b} {r} {t} x y =
     (value-one-to-one r t (x .answers ∙ sym (y .answers)), x .leaves ∙ sym (y .leaves))
 
-pub accepted-is-zero : {s : Poses} {work a : List ℕ} {r : Checked} → ListsChecked s work r a → (r .number ≡ 0) ↔ (checkVerdict s work ≡ accepted)
+pub accepted-is-zero : {s : Poses} {work a : List ℕ} {r : Checked} → ListsChecked s work r a
+    → (r .number ≡ 0) ↔ (checkVerdict s work ≡ accepted)
 unfolding checked
 accepted-is-zero {s} {work} x =
     let same = ap (λ (v : Told). v .number) (x .answers) in
@@ -41,7 +43,8 @@ pub record Accepted (s : Poses) (work : List ℕ) : Type 0 where
   pub lists-valid : Valid s
   pub work-placed : Placed s work
 
-pub accepted-promises : {s : Poses} {lent work : List ℕ} {r : Checked} → ListsChecked s lent r work → r .number ≡ 0 → Accepted s work
+pub accepted-promises : {s : Poses} {lent work : List ℕ} {r : Checked} → ListsChecked s lent r work → r .number ≡ 0
+    → Accepted s work
 unfolding checkVerdict checkedWork workAfter workChecked
 accepted-promises {s} {lent} x none =
     let e = accepted-is-zero x .0 none in
@@ -51,6 +54,7 @@ accepted-promises {s} {lent} x none =
     record { lists-valid = valid s lent e; work-placed = rw after (placed s lent (work-long s lent e)) }
 
 -- past the tests of the shape, the answer and the work slice go by the lists alone
-pub checked-lists : {s : Poses} {lent work : List ℕ} {r : Checked} → checkShape s lent ≡ accepted → ListsChecked s lent r work → (valueOf r ≡ told (inLists s)) × (work ≡ workChecked (inLists s) s lent)
+pub checked-lists : {s : Poses} {lent work : List ℕ} {r : Checked} → checkShape s lent ≡ accepted
+    → ListsChecked s lent r work → (valueOf r ≡ told (inLists s)) × (work ≡ workChecked (inLists s) s lent)
 unfolding checked checkVerdict checkedWork workAfter
 checked-lists {s} {lent} shape x = (x .answers ∙ rw shape, x .leaves ∙ rw shape)

@@ -91,7 +91,8 @@ module _ {f g : ℕ → ℕ} {l : List ℕ} {d k r : ℕ} (w : Seat f g l d k r)
         → list′ ≡ over (take k (insert (ahead f g) d l)) lent
     items-then lent is is′ = is′ ∙ rw (is, seat-is) (slid-inserts l lent k r last d (w .within) before-k (w .most) last-is)
 
-    pub numbers-then : (h : ℕ → ℕ) (lent : List ℕ) {x : ℕ} {list list′ : List ℕ} → x ≡ h d → list ≡ over (map h l) lent → list′ ≡ slid r last x list
+    pub numbers-then : (h : ℕ → ℕ) (lent : List ℕ) {x : ℕ} {list list′ : List ℕ} → x ≡ h d → list ≡ over (map h l) lent
+        → list′ ≡ slid r last x list
         → list′ ≡ over (map h (take k (insert (ahead f g) d l))) lent
     numbers-then h lent x-is is is′ =
         is′ ∙ rw (is, x-is, seat-is) (slid-maps h l lent k r last d (w .within) before-k (w .most) last-is)

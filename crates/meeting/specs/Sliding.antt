@@ -60,7 +60,8 @@ map-seat f k r d l =
     map-take f k (take r l ++ d ∷ drop r l)
     ∙ ap (take k) (map-join f (take r l) (d ∷ drop r l) ∙ rw (map-take f r l, map-drop f r l))
 
-pub slid-maps : (f : ℕ → ℕ) (l lent : List ℕ) (k j last d : ℕ) → j ≤ length l → j < k → length l ≤ k → last ≡ min (length l) (k - 1)
+pub slid-maps : (f : ℕ → ℕ) (l lent : List ℕ) (k j last d : ℕ) → j ≤ length l → j < k → length l ≤ k
+    → last ≡ min (length l) (k - 1)
     → slid j last (f d) (over (map f l) lent) ≡ over (map f (take k (take j l ++ d ∷ drop j l))) lent
 slid-maps f l lent k j last d within inside most is-last =
     let same : length (map f l) ≡ length l = length-map l f in

@@ -61,7 +61,8 @@ right-accepted l h =
     rw (shape-is l, shape-passes (l .m) (l .n) (l .rule) (l .k) (l .weights) (length (l .items)) (length (l .scores)) (length (l .picks)) (length (l .lows)) (length (l .highs)) (length (l .tally)) (length (l .work)) (h .shape))
     (valid-lists (posesOf l) (h .lists-valid))
 
-pub accepted-exactly : {r : Poses → Query → Search} {l : Lent} {a : Answer} {picks lows highs tally work : List ℕ} → Searched r l a picks lows highs tally work
+pub accepted-exactly : {r : Poses → Query → Search} {l : Lent} {a : Answer} {picks lows highs tally work : List ℕ}
+    → Searched r l a picks lows highs tally work
     → (a .number ≡ 0) ↔ Accepts l
 accepted-exactly {l = l} x =
     let both = accepted-is-zero x in

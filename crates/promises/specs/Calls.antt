@@ -34,7 +34,8 @@ pub record Returns (s : Poses) (q : Query) (k : ℕ) (r : Search) (a : Answer) (
   pub items : (j : ℕ) → j < k → getD picks j 0 < s .n
   pub different : (i j : ℕ) → i < k → j < k → getD picks i 0 ≡ getD picks j 0 → i ≡ j
   -- no item left out has a higher overall score than one returned
-  pub highest : (d j : ℕ) → d < s .n → ((i : ℕ) → i < k → getD picks i 0 ≡ d → ⊥) → j < k → total s q d ≤ total s q (getD picks j 0)
+  pub highest : (d j : ℕ) → d < s .n → ((i : ℕ) → i < k → getD picks i 0 ≡ d → ⊥) → j < k
+      → total s q d ≤ total s q (getD picks j 0)
   -- each true score lies between the low and the high returned
   pub low-below : (j : ℕ) → j < k → getD lows j 0 ≤ total s q (getD picks j 0)
   pub high-above : (j : ℕ) → j < k → total s q (getD picks j 0) ≤ getD highs j 0

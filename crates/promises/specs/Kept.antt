@@ -102,22 +102,26 @@ returns s q k r a picks lows highs marks owed below above g =
       tally-most = λ x h. rw (f .slices-are .tally-is, over-at (tally s tr) (g .lent .tally) x 0 (omega (arith, marked))) (owed .tallied p (owed .row-most) .at-most-m x);
     }
 
-pub returned-ta : {s : Poses} {q : Query} {k : ℕ} {a : Answer} {picks lows highs marks : List ℕ} → Call TA s q k a picks lows highs marks → Returns s q k (TA s q) a picks lows highs marks
+pub returned-ta : {s : Poses} {q : Query} {k : ℕ} {a : Answer} {picks lows highs marks : List ℕ}
+    → Call TA s q k a picks lows highs marks → Returns s q k (TA s q) a picks lows highs marks
 unfolding TA byScore
 returned-ta {s} {q} {k} {a} {picks} {lows} {highs} {marks} c =
     returns s q k (TA s q) a picks lows highs marks (all-owed c .ta) (λ d _. le-refl (total s q d)) (λ d _. le-refl (total s q d)) (gives c)
 
-pub returned-bpa : {s : Poses} {q : Query} {k : ℕ} {a : Answer} {picks lows highs marks : List ℕ} → Call BPA s q k a picks lows highs marks → Returns s q k (BPA s q) a picks lows highs marks
+pub returned-bpa : {s : Poses} {q : Query} {k : ℕ} {a : Answer} {picks lows highs marks : List ℕ}
+    → Call BPA s q k a picks lows highs marks → Returns s q k (BPA s q) a picks lows highs marks
 unfolding BPA byScore
 returned-bpa {s} {q} {k} {a} {picks} {lows} {highs} {marks} c =
     returns s q k (BPA s q) a picks lows highs marks (all-owed c .bpa) (λ d _. le-refl (total s q d)) (λ d _. le-refl (total s q d)) (gives c)
 
-pub returned-bpa2 : {s : Poses} {q : Query} {k : ℕ} {a : Answer} {picks lows highs marks : List ℕ} → Call BPA2 s q k a picks lows highs marks → Returns s q k (BPA2 s q) a picks lows highs marks
+pub returned-bpa2 : {s : Poses} {q : Query} {k : ℕ} {a : Answer} {picks lows highs marks : List ℕ}
+    → Call BPA2 s q k a picks lows highs marks → Returns s q k (BPA2 s q) a picks lows highs marks
 unfolding BPA2 byScore
 returned-bpa2 {s} {q} {k} {a} {picks} {lows} {highs} {marks} c =
     returns s q k (BPA2 s q) a picks lows highs marks (all-owed c .bpa2) (λ d _. le-refl (total s q d)) (λ d _. le-refl (total s q d)) (gives c)
 
-pub returned-nra : {s : Poses} {q : Query} {k : ℕ} {a : Answer} {picks lows highs marks : List ℕ} → Call NRA s q k a picks lows highs marks → Returns s q k (NRA s q) a picks lows highs marks
+pub returned-nra : {s : Poses} {q : Query} {k : ℕ} {a : Answer} {picks lows highs marks : List ℕ}
+    → Call NRA s q k a picks lows highs marks → Returns s q k (NRA s q) a picks lows highs marks
 unfolding NRA
 returned-nra {s} {q} {k} {a} {picks} {lows} {highs} {marks} c =
     let all = all-owed c in

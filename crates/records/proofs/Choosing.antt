@@ -22,7 +22,8 @@ module _ (query lists : RefT (List ℕ)) (part : Part) where
       let from = lentOf (part .source) query lists in
       slPart from (part .start + from .ptr .1) (part .start) e g
 
-  pub part-chosen : (e g : ℕ) → chosen (now query) (now lists) ≡ part → e - part .start ≡ part .size → WeightsChosen query lists (partFrom e g)
+  pub part-chosen : (e g : ℕ) → chosen (now query) (now lists) ≡ part → e - part .start ≡ part .size
+      → WeightsChosen query lists (partFrom e g)
   unfolding startOf partOf
   part-chosen e g is-chosen long =
       record { holds = rw (is-chosen, long, lent-holds (part .source) query lists); stands = rw is-chosen }

@@ -26,7 +26,8 @@ use Rattle.records.specs.Heads.{refused-by, lists-held}
 
 -- ---- a query
 module _ (b : List ℕ) where
-  pub query-refused : {x : ℕ} {r : QueryRead} → x ≡ told (queryHead b) .number → (x ≡ 0 → ⊥) → valueOfQuery r ≡ queryRefusal x → QueryIsRead b r
+  pub query-refused : {x : ℕ} {r : QueryRead} → x ≡ told (queryHead b) .number → (x ≡ 0 → ⊥)
+      → valueOfQuery r ≡ queryRefusal x → QueryIsRead b r
   unfolding readQuery queryAnswer
   query-refused {x} e bad says =
       refused-by (queryHead b) e bad (λ i p (refuses : queryHead b ≡ refused x i p). record { answers = rw refuses says })
@@ -64,11 +65,13 @@ module _ (b items scores : List ℕ) where
   abbrev pub AsLent : ListsRead → Type 0
   AsLent r = ListsAreRead b items scores r items scores
 
-  refused-leaves : {x : ℕ} (i p : ℕ) {r : ListsRead} → listsVerdict b items scores ≡ refused x i p → valueOfLists r ≡ listsRefusal x → AsLent r
+  refused-leaves : {x : ℕ} (i p : ℕ) {r : ListsRead} → listsVerdict b items scores ≡ refused x i p
+      → valueOfLists r ≡ listsRefusal x → AsLent r
   unfolding readLists listsAnswer itemsAfter scoresAfter written
   refused-leaves i p e says = record { answers = rw e says; leaves-items = rw e; leaves-scores = rw e }
 
-  pub lists-refused : {x : ℕ} {r : ListsRead} → x ≡ told (listsHead b) .number → (x ≡ 0 → ⊥) → valueOfLists r ≡ listsRefusal x → AsLent r
+  pub lists-refused : {x : ℕ} {r : ListsRead} → x ≡ told (listsHead b) .number → (x ≡ 0 → ⊥)
+      → valueOfLists r ≡ listsRefusal x → AsLent r
   unfolding listsVerdict
   lists-refused {x} e bad says =
       refused-by (listsHead b) e bad (λ i p (refuses : listsHead b ≡ refused x i p). refused-leaves i p (rw refuses) says)

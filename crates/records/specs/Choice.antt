@@ -64,7 +64,8 @@ module _ (query lists : List ℕ) where
           let held = query-held query query-passes in
           rw (chosen-own h) (part-length query 9 (2 * queryCount query) (held .weights-in))
 
-      pub other-count-refused : (queryCount query ≡ 0 → ⊥) → (queryCount query ≡ listsM lists → ⊥) → wrongWeights (listsM lists) weightsOf ≡ true
+      pub other-count-refused : (queryCount query ≡ 0 → ⊥) → (queryCount query ≡ listsM lists → ⊥)
+          → wrongWeights (listsM lists) weightsOf ≡ true
       unfolding wrongWeights
       other-count-refused h other =
           rw (ne-eqb (length weightsOf) (2 * listsM lists) (λ e. other (omega (arith, own-length h))))

@@ -60,7 +60,8 @@ module _ {b : List ℕ} {r : QueryRead} (x : QueryIsRead b r) where
 pub lists-one-to-one : (r t : ListsRead) → valueOfLists r ≡ valueOfLists t → r ≡ t
 lists-one-to-one r t e = λ j. record { number = e j .number; m = e j .m; n = e j .n }
 
-pub lists-settle : {b items scores i k s u : List ℕ} {r t : ListsRead} → ListsAreRead b items scores r i s → ListsAreRead b items scores t k u → (r ≡ t) × (i ≡ k) × (s ≡ u)
+pub lists-settle : {b items scores i k s u : List ℕ} {r t : ListsRead} → ListsAreRead b items scores r i s
+    → ListsAreRead b items scores t k u → (r ≡ t) × (i ≡ k) × (s ≡ u)
 lists-settle {r = r} {t = t} x y = (
   lists-one-to-one r t (x .answers ∙ sym (y .answers)),
   x .leaves-items ∙ sym (y .leaves-items),
@@ -111,5 +112,6 @@ module _ {b items scores i s : List ℕ} {r : ListsRead} (x : ListsAreRead b ite
       }
 
 -- ---- the weights
-pub weights-settle : {query lists r t : RefT (List ℕ)} → WeightsChosen query lists r → WeightsChosen query lists t → (now r ≡ now t) × (r .ptr ≡ t .ptr)
+pub weights-settle : {query lists r t : RefT (List ℕ)} → WeightsChosen query lists r → WeightsChosen query lists t
+    → (now r ≡ now t) × (r .ptr ≡ t .ptr)
 weights-settle x y = (x .holds ∙ sym (y .holds), x .stands ∙ sym (y .stands))

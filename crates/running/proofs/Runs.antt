@@ -37,14 +37,16 @@ last-named (suc (suc zero)) s q h = absurd (omega (arith, h))
 last-named (suc (suc (suc which))) s q h = refl
 
 -- TA, BPA and BPA2 keep k items when they stop
-kept-k : (which : ℕ) (s : Poses) (q : Query) (k : ℕ) → which ≤ 2 → Valid s → 1 ≤ k → k ≤ s .n → length (kept s k (searchBy which s q) (rows s k (searchBy which s q))) ≡ k
+kept-k : (which : ℕ) (s : Poses) (q : Query) (k : ℕ) → which ≤ 2 → Valid s → 1 ≤ k → k ≤ s .n
+    → length (kept s k (searchBy which s q) (rows s k (searchBy which s q))) ≡ k
 kept-k zero s q k h v some most = rw (search-ta s q) (promised s v q k some most .ta .size)
 kept-k (suc zero) s q k h v some most = rw (search-bpa s q) (promised s v q k some most .bpa .size)
 kept-k (suc (suc zero)) s q k h v some most = rw (search-bpa2 s q) (promised s v q k some most .bpa2 .size)
 kept-k (suc (suc (suc which))) s q k h v some most = absurd (omega (arith, h))
 
 module _ (which : ℕ) (s : Poses) (q : Query) (k : ℕ) (picks₀ lows₀ highs₀ tally₀ : List ℕ) (d : Done) (picks lows highs marks : List ℕ) where
-  pub scored-runs : which ≤ 2 → Valid s → 1 ≤ k → k ≤ s .n → ScoredRan which s q k picks₀ lows₀ tally₀ d picks lows marks → highs ≡ over (take k lows) highs₀
+  pub scored-runs : which ≤ 2 → Valid s → 1 ≤ k → k ≤ s .n
+      → ScoredRan which s q k picks₀ lows₀ tally₀ d picks lows marks → highs ≡ over (take k lows) highs₀
       → Runs which s q k picks₀ lows₀ highs₀ tally₀ d picks lows highs marks
   unfolding searchBy byScore
   scored-runs few v some most ran copied =
@@ -69,7 +71,8 @@ module _ (which : ℕ) (s : Poses) (q : Query) (k : ℕ) (picks₀ lows₀ highs
         ran = subst (λ (r : Search). Ran s k r (d .rows) picks₀ lows₀ highs₀ tally₀ picks lows highs marks) same wrote;
       }
 
-  pub bounded-runs : {row : ℕ} → 3 ≤ which → Valid s → 1 ≤ k → k ≤ s .n → Finished s q k row picks₀ lows₀ highs₀ tally₀ picks lows highs marks → OnlySorted (s .m) row d
+  pub bounded-runs : {row : ℕ} → 3 ≤ which → Valid s → 1 ≤ k → k ≤ s .n
+      → Finished s q k row picks₀ lows₀ highs₀ tally₀ picks lows highs marks → OnlySorted (s .m) row d
       → Runs which s q k picks₀ lows₀ highs₀ tally₀ d picks lows highs marks
   unfolding NRA
   bounded-runs {row} last v some most finished counted =

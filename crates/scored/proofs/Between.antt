@@ -38,7 +38,9 @@ use Rattle.stepping.specs.Steps.{keeps-now, small-of}
 use Rattle.stepping.specs.Best.{walked-best, walkable-of}
 use Rattle.scored.proofs.Running.{counts-are, reached-at, limit-is, kept-is, stops-told, row-is, state-start, steps-none}
 
-pub state-self : {s : Poses} {q : Query} {k filled : ℕ} {tr : List Access} {picks₀ lows₀ tally₀ picks lows marks : List ℕ} → State s q k tr picks₀ lows₀ tally₀ filled picks lows marks → State s q k tr picks lows marks filled picks lows marks
+pub state-self : {s : Poses} {q : Query} {k filled : ℕ} {tr : List Access} {picks₀ lows₀ tally₀ picks lows marks : List ℕ}
+    → State s q k tr picks₀ lows₀ tally₀ filled picks lows marks
+    → State s q k tr picks lows marks filled picks lows marks
 state-self {s} {q} {k} {filled} {tr} {picks₀} {lows₀} {tally₀} at =
     let l = take k (ranking s q tr) in
     let again : (t lent now : List ℕ) → now ≡ over t lent → now ≡ over t now = λ t lent now e. e ∙ sym (ap (over t) e ∙ over-over t t lent refl) in
@@ -64,7 +66,9 @@ pub record Between (which : ℕ) (s : Poses) (q : Query) (k : ℕ) (picks₀ low
   pub few : found ≤ p * s .m
   pub not-yet : (x : ℕ) → 1 ≤ x → x ≤ p → stops s k (searchBy which s q) x ≡ false
 
-pub between-starts : (which : ℕ) (s : Poses) (q : Query) (k : ℕ) (picks lows marks marks₀ reach : List ℕ) → Valid s → marks ≡ replicate (s .m * s .n) 0 ++ drop (s .m * s .n) marks₀ → length marks ≡ length marks₀ → ((i : ℕ) → getD reach i 0 ≡ 0) → Between which s q k picks lows marks 0 picks lows marks reach 0 0
+pub between-starts : (which : ℕ) (s : Poses) (q : Query) (k : ℕ) (picks lows marks marks₀ reach : List ℕ) → Valid s
+    → marks ≡ replicate (s .m * s .n) 0 ++ drop (s .m * s .n) marks₀ → length marks ≡ length marks₀
+    → ((i : ℕ) → getD reach i 0 ≡ 0) → Between which s q k picks lows marks 0 picks lows marks reach 0 0
 between-starts which s q k picks lows marks marks₀ reach v e long none =
     record {
       not-last = v .size .n-least;
@@ -113,7 +117,8 @@ module _ (m n rule : ℕ) (weights items scores work : List ℕ) (r : Readable (
             walkable = λ i hi. walkable-of m n rule weights items scores work r state-then i (getD (t .best) i 0) hi long (step .reached i hi);
           }
 
-      pub row-made : {reach′ : List ℕ} → Placed which (p + 1) m n marks′ reach′ → After which s q k picks₀ lows₀ tally₀ (t .filled) picks′ lows′ marks′ reach′ (found + t .found) (p + 1)
+      pub row-made : {reach′ : List ℕ} → Placed which (p + 1) m n marks′ reach′
+          → After which s q k picks₀ lows₀ tally₀ (t .filled) picks′ lows′ marks′ reach′ (found + t .found) (p + 1)
       unfolding reachBy
       row-made places =
           let size = suc-mul p m in
@@ -147,7 +152,8 @@ module _ (m n rule : ℕ) (weights items scores work : List ℕ) (r : Readable (
     test-is : (leb k filled && leb (limitAt rule weights m n reach scores) (getD lows (k - 1) 0)) ≡ stops s k (searchBy which s q) p
     test-is = stops-told which p (a .state) (limitAt rule weights m n reach scores) (keeps .k-least) (limit-is m n rule weights items scores which p reach (a .place))
 
-    pub after-goes-on : (eqb p n || (leb k filled && leb (limitAt rule weights m n reach scores) (getD lows (k - 1) 0))) ≡ false → Between which s q k picks₀ lows₀ tally₀ filled picks lows marks reach found p
+    pub after-goes-on : (eqb p n || (leb k filled && leb (limitAt rule weights m n reach scores) (getD lows (k - 1) 0))) ≡ false
+        → Between which s q k picks₀ lows₀ tally₀ filled picks lows marks reach found p
     after-goes-on fails =
         let both = or-no (eqb p n) (leb k filled && leb (limitAt rule weights m n reach scores) (getD lows (k - 1) 0)) fails in
         let other = eqb-false p n (both .0) in
@@ -162,7 +168,10 @@ module _ (m n rule : ℕ) (weights items scores work : List ℕ) (r : Readable (
               ⊎-elim (λ (e : x ≡ p). rw e (sym test-is ∙ both .1)) (λ (lt : x < p). a .not-yet x h lt) (eq-or-lt-of-le l);
         }
 
-    pub run-ends : (marks₀ : List ℕ) {d : Done} → (eqb p n || (leb k filled && leb (limitAt rule weights m n reach scores) (getD lows (k - 1) 0))) ≡ true → Counted which p m found d → tally₀ ≡ over (replicate (m * n) 0) marks₀ → Ran which s q k picks₀ lows₀ marks₀ d picks lows marks
+    pub run-ends : (marks₀ : List ℕ) {d : Done}
+        → (eqb p n || (leb k filled && leb (limitAt rule weights m n reach scores) (getD lows (k - 1) 0))) ≡ true
+        → Counted which p m found d → tally₀ ≡ over (replicate (m * n) 0) marks₀
+        → Ran which s q k picks₀ lows₀ marks₀ d picks lows marks
     unfolding tally
     run-ends marks₀ {d} ends counts cleared =
         let row = counts .rows-are in

@@ -117,7 +117,9 @@ module _ (s : Poses) (v : Valid s) where
       (λ (z : eqb which 2 ≡ false). rw (steps-rows which s p (eqb-false which 2 z)) (rows-covers s v p h i q hi l)))
 
   -- the threshold's positions: visited up to there, and positions of the lists
-  pub reached-at : (which p : ℕ) (reach : List ℕ) → 1 ≤ p → p ≤ s .n → ((i : ℕ) → i < s .m → getD reach i 0 ≡ reachBy which s p i) → (i : ℕ) → i < s .m → (getD reach i 0 ≤ best s (stepsBy which s p) i) × (1 ≤ getD reach i 0) × (getD reach i 0 ≤ s .n)
+  pub reached-at : (which p : ℕ) (reach : List ℕ) → 1 ≤ p → p ≤ s .n
+      → ((i : ℕ) → i < s .m → getD reach i 0 ≡ reachBy which s p i) → (i : ℕ) → i < s .m
+      → (getD reach i 0 ≤ best s (stepsBy which s p) i) × (1 ≤ getD reach i 0) × (getD reach i 0 ≤ s .n)
   unfolding reachBy
   reached-at which p reach some h is i hi =
       let deep = steps-reach which p i h hi in
@@ -128,7 +130,9 @@ module _ (s : Poses) (v : Valid s) where
 
 -- ---- the test, as the slices tell it
 -- the threshold at positions that stand in an array
-pub limit-is : (m n rule : ℕ) (weights items scores : List ℕ) (which p : ℕ) (reach : List ℕ) → ((i : ℕ) → i < m → getD reach i 0 ≡ reachBy which (poses m n items scores) p i) → limitAt rule weights m n reach scores ≡ threshold (poses m n items scores) (queryWith rule weights) (reachBy which (poses m n items scores) p)
+pub limit-is : (m n rule : ℕ) (weights items scores : List ℕ) (which p : ℕ) (reach : List ℕ)
+    → ((i : ℕ) → i < m → getD reach i 0 ≡ reachBy which (poses m n items scores) p i)
+    → limitAt rule weights m n reach scores ≡ threshold (poses m n items scores) (queryWith rule weights) (reachBy which (poses m n items scores) p)
 unfolding limitAt threshold overall score
 limit-is m n rule weights items scores which p reach is =
     joined-same rule (λ i. getD scores (i * n + (getD reach i 0 - 1)) 0 * getD weights i 0)
@@ -154,7 +158,8 @@ module _ {s : Poses} {q : Query} (which p : ℕ) {k filled : ℕ} {picks₀ lows
       (over-at (map (total s q) t) lows₀ (k - 1) 0 (rw length-map inside) ∙ map-at (total s q) t (k - 1) inside
       ∙ ap (total s q) (getD-take k l (k - 1) 0 (omega arith)))
 
-  pub stops-told : (limit : ℕ) → 1 ≤ k → limit ≡ threshold s q (reachBy which s p) → (leb k filled && leb limit (getD lows (k - 1) 0)) ≡ stops s k (searchBy which s q) p
+  pub stops-told : (limit : ℕ) → 1 ≤ k → limit ≡ threshold s q (reachBy which s p)
+      → (leb k filled && leb limit (getD lows (k - 1) 0)) ≡ stops s k (searchBy which s q) p
   unfolding stops searchBy byScore
   stops-told limit some e =
       rw (kept-is, at .shortlist .filled-is, e)
@@ -165,7 +170,8 @@ module _ {s : Poses} {q : Query} (which p : ℕ) {k filled : ℕ} {picks₀ lows
       (λ (z : leb k (length (take k (ranking s q (stepsBy which s p)))) ≡ false). rw z))
 
 -- the first row at which the search ends: by its own test, or because it is the last
-pub row-is : (s : Poses) (k : ℕ) (r : Search) (p : ℕ) → 1 ≤ p → p ≤ s .n → ((x : ℕ) → 1 ≤ x → x < p → stops s k r x ≡ false) → (eqb p (s .n) || stops s k r p) ≡ true → p ≡ rows s k r
+pub row-is : (s : Poses) (k : ℕ) (r : Search) (p : ℕ) → 1 ≤ p → p ≤ s .n
+    → ((x : ℕ) → 1 ≤ x → x < p → stops s k r x ≡ false) → (eqb p (s .n) || stops s k r p) ≡ true → p ≡ rows s k r
 unfolding rows
 row-is s k r p some most before ends =
     by-cases (stops s k r p)
@@ -202,7 +208,9 @@ none-tallied : (s : Poses) → tally s [] ≡ replicate (s .m * s .n) 0
 unfolding tally
 none-tallied s = table-same (times []) (λ _ _. 0) (s .n) (s .m) (λ i p hi hp. times-none i p) ∙ table-zeros (s .n) (s .m)
 
-pub state-start : (s : Poses) (q : Query) (k : ℕ) (picks lows marks marks₀ : List ℕ) → marks ≡ replicate (s .m * s .n) 0 ++ drop (s .m * s .n) marks₀ → length marks ≡ length marks₀ → State s q k [] picks lows marks₀ 0 picks lows marks
+pub state-start : (s : Poses) (q : Query) (k : ℕ) (picks lows marks marks₀ : List ℕ)
+    → marks ≡ replicate (s .m * s .n) 0 ++ drop (s .m * s .n) marks₀ → length marks ≡ length marks₀
+    → State s q k [] picks lows marks₀ 0 picks lows marks
 unfolding over
 state-start s q k picks lows marks marks₀ e long =
     record {

@@ -27,7 +27,9 @@ use Rattle.searches.specs.Answered.{RefusedBy, Tells, Searched}
 use Rattle.searches.specs.Shortlists.{items-of, lows-of, highs-of}
 use Rattle.admission.specs.Shapes.{numbered-search}
 
-pub refused-answer : (r : Poses → Query → Search) (l : Lent) (c : Checked) (a : Answer) (work : List ℕ) → RefusedBy c a → (c .number ≡ 0 → ⊥) → valueOf c ≡ told (searchVerdict l) → work ≡ workAfter (searchShape l) (posesOf l) (l .work) → Searched r l a (l .picks) (l .lows) (l .highs) (l .tally) work
+pub refused-answer : (r : Poses → Query → Search) (l : Lent) (c : Checked) (a : Answer) (work : List ℕ) → RefusedBy c a
+    → (c .number ≡ 0 → ⊥) → valueOf c ≡ told (searchVerdict l) → work ≡ workAfter (searchShape l) (posesOf l) (l .work)
+    → Searched r l a (l .picks) (l .lows) (l .highs) (l .tally) work
 unfolding answer answering slices slicesWith written
 refused-answer r l c a work t bad says left =
     by-verdict (searchVerdict l)
@@ -55,7 +57,9 @@ unfolding queryOf
 same-query l numbers d = λ j. record { rule = l .rule; weight = λ i. d .weight i j }
 
 -- all that a run may read
-pub readable : {m n rule k : ℕ} {weights items scores : List ℕ} {picks lows highs tally : ℕ} {work after : List ℕ} (numbers : List ℕ) → Passed m n rule k weights items scores picks lows highs tally work after → Decoded weights numbers → ((j : ℕ) → getD scores j 0 ≤ 65535) → Readable (poses m n items scores) (queryWith rule numbers) after
+pub readable : {m n rule k : ℕ} {weights items scores : List ℕ} {picks lows highs tally : ℕ} {work after : List ℕ} (numbers : List ℕ)
+    → Passed m n rule k weights items scores picks lows highs tally work after → Decoded weights numbers
+    → ((j : ℕ) → getD scores j 0 ≤ 65535) → Readable (poses m n items scores) (queryWith rule numbers) after
 readable numbers through decoded small =
     record {
       lists-valid = through .lists-valid;

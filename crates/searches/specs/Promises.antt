@@ -76,11 +76,13 @@ search-settles {a = a} {b = b} x y =
     }
 
 -- the number is 0 exactly where the model accepts
-pub accepted-is-zero : {r : Poses → Query → Search} {l : Lent} {a : Answer} {picks lows highs tally work : List ℕ} → Searched r l a picks lows highs tally work
+pub accepted-is-zero : {r : Poses → Query → Search} {l : Lent} {a : Answer} {picks lows highs tally work : List ℕ}
+    → Searched r l a picks lows highs tally work
     → (a .number ≡ 0) ↔ (searchVerdict l ≡ accepted)
 accepted-is-zero {r} {l} x = (λ none. number-none r l (sym (x .number-is) ∙ none), λ e. x .number-is ∙ none-number r l e)
 
-pub accepted-call : {r : Poses → Query → Search} {l : Lent} {a : Answer} {picks lows highs tally work : List ℕ} → Searched r l a picks lows highs tally work
+pub accepted-call : {r : Poses → Query → Search} {l : Lent} {a : Answer} {picks lows highs tally work : List ℕ}
+    → Searched r l a picks lows highs tally work
     → a .number ≡ 0 → Accepts l
 accepted-call {l = l} x none = accepts l (accepted-is-zero x .0 none)
 
@@ -92,7 +94,8 @@ pub record Finds (s : Poses) (k : ℕ) (r : Search) (l : Lent) (a : Answer) (pic
   pub random-are : a .random .0 ≡ made random (r .accesses (rows s k r))
   pub slices-are : Ran s k r (rows s k r) (l .picks) (l .lows) (l .highs) (l .tally) picks lows highs marks
 
-pub accepted-finds : {r : Poses → Query → Search} {l : Lent} {a : Answer} {picks lows highs marks work : List ℕ} → Searched r l a picks lows highs marks work
+pub accepted-finds : {r : Poses → Query → Search} {l : Lent} {a : Answer} {picks lows highs marks work : List ℕ}
+    → Searched r l a picks lows highs marks work
     → a .number ≡ 0 → Finds (posesOf l) (l .k) (r (posesOf l) (queryOf l)) l a picks lows highs marks
 unfolding answer answering slices slicesWith written found foundAfter searchOf
 accepted-finds {r} {l} {a} {picks} {lows} {highs} {marks} x none =

@@ -36,7 +36,8 @@ module _ (s : Poses) (q : Query) (work : List ℕ) (v : Valid s) (w : Placed s w
   place-back : (i d : ℕ) → i < s .m → d < s .n → getD work (i * s .n + d) 0 - 1 ≡ place s i d
   place-back i d hi hd = omega (arith, w .position-at i d hi hd)
 
-  pub score-is : (d : ℕ) → d < s .n → joined (q .rule) (λ i. readAt (s .n) (s .scores) work d (s .n) (unread false (s .n) (s .scores) (s .n)) i * q .weight i) (s .m) ≡ total s q d
+  pub score-is : (d : ℕ) → d < s .n
+      → joined (q .rule) (λ i. readAt (s .n) (s .scores) work d (s .n) (unread false (s .n) (s .scores) (s .n)) i * q .weight i) (s .m) ≡ total s q d
   unfolding total overall readAt score
   score-is d hd =
       joined-same (q .rule) (λ i. readAt (s .n) (s .scores) work d (s .n) (unread false (s .n) (s .scores) (s .n)) i * q .weight i) (λ i. score s i (place s i d) * q .weight i) (s .m)
@@ -47,7 +48,8 @@ module _ (s : Poses) (q : Query) (work : List ℕ) (v : Valid s) (w : Placed s w
       rw (at, le-leb (place s i d + 1) (s .n) (omega arith), index))
 
   module _ (tr : List Access) (tally₀ : List ℕ) {marks : List ℕ} (is : marks ≡ over (tally s tr) tally₀) where
-    pub tally-after : (a : Kind) (i p d : ℕ) → i < s .m → p < s .n → item s i p ≡ d → d < s .n → visitedOnce d (s .m) (s .n) work marks ≡ over (tally s (tr ++ lookup s a i p)) tally₀
+    pub tally-after : (a : Kind) (i p d : ℕ) → i < s .m → p < s .n → item s i p ≡ d → d < s .n
+        → visitedOnce d (s .m) (s .n) work marks ≡ over (tally s (tr ++ lookup s a i p)) tally₀
     unfolding visitedOnce visitedIn tally
     tally-after a i p d hi hp found hd =
         let g : ℕ → ℕ → ℕ = λ j x. getD marks (j * s .n + x) 0 + once (ltb j (s .m) && eqb (getD work (j * s .n + d) 0 - 1) x) in
@@ -83,7 +85,8 @@ module _ (s : Poses) (q : Query) (work : List ℕ) (v : Valid s) (w : Placed s w
         (λ (z : eqb e d ≡ false). rw (z, or-false)))
         (λ x y _ _ _ _. refl)
 
-    ranking-new : met s tr d ≡ false → ranking s q (tr ++ lookup s a i p) ≡ insert (ahead (total s q) (total s q)) d (ranking s q tr)
+    ranking-new : met s tr d ≡ false
+        → ranking s q (tr ++ lookup s a i p) ≡ insert (ahead (total s q) (total s q)) d (ranking s q tr)
     unfolding ranking
     ranking-new new =
         ranked-more (ahead (total s q) (total s q)) (ahead-ordering (total s q) (total s q)) (met s tr) (met s (tr ++ lookup s a i p)) (s .n) d hd new met-then
@@ -108,7 +111,9 @@ module _ (s : Poses) (q : Query) (work : List ℕ) (v : Valid s) (w : Placed s w
             tally-as-long = long ∙ at .tally-as-long;
           }
 
-      pub meets-new : {filled′ : ℕ} {picks′ lows′ : List ℕ} → met s tr d ≡ false → Listing (total s q) (take k (insert (ahead (total s q) (total s q)) d (take k (ranking s q tr)))) picks₀ lows₀ filled′ picks′ lows′ → State s q k (tr ++ lookup s a i p) picks₀ lows₀ tally₀ filled′ picks′ lows′ marks′
+      pub meets-new : {filled′ : ℕ} {picks′ lows′ : List ℕ} → met s tr d ≡ false
+          → Listing (total s q) (take k (insert (ahead (total s q) (total s q)) d (take k (ranking s q tr)))) picks₀ lows₀ filled′ picks′ lows′
+          → State s q k (tr ++ lookup s a i p) picks₀ lows₀ tally₀ filled′ picks′ lows′ marks′
       meets-new new inserted =
           record {
             shortlist = rw (ranking-new new, take-insert (ahead (total s q) (total s q)) k d (ranking s q tr)) inserted;

@@ -52,7 +52,8 @@ pub record RoundPart (s : Poses) (q : Query) (k r i filled : ℕ) (picks₀ lows
   pub reached : Reached s (round s (rounds s r) i) reach
   pub counted : made direct (round s (rounds s r) i) ≡ made direct (rounds s r) + found
 
-pub part-none : {s : Poses} {q : Query} {k r filled : ℕ} {picks lows marks reach : List ℕ} → Reached s (rounds s r) reach → RoundPart s q k r 0 filled picks lows marks filled picks lows marks reach 0
+pub part-none : {s : Poses} {q : Query} {k r filled : ℕ} {picks lows marks reach : List ℕ}
+    → Reached s (rounds s r) reach → RoundPart s q k r 0 filled picks lows marks filled picks lows marks reach 0
 unfolding round
 part-none {s} {r = r} reached = record { goes = goes-none (rounds s r); reached = reached; counted = omega arith }
 
@@ -64,7 +65,8 @@ pub part-whole : (s : Poses) → Valid s → (r i : ℕ) → i ≤ s .m → Whol
 part-whole s v r i hi = looked-whole s v (part-turns s v r i hi .looked)
 
 -- an item at a list's next position was never looked up
-pub part-count : (s : Poses) → Valid s → (r i b j : ℕ) → i < s .m → b ≡ best s (round s (rounds s r) i) i → b < s .n → j < s .m → times (round s (rounds s r) i) j (place s j (item s i b)) ≤ 8
+pub part-count : (s : Poses) → Valid s → (r i b j : ℕ) → i < s .m → b ≡ best s (round s (rounds s r) i) i → b < s .n
+    → j < s .m → times (round s (rounds s r) i) j (place s j (item s i b)) ≤ 8
 part-count s v r i b j hi e hb hj =
     let tr = round s (rounds s r) i in
     let whole = part-whole s v r i (omega arith) in
@@ -74,7 +76,10 @@ part-count s v r i b j hi e hb hj =
     omega (arith, whole .alike j (item s i b) hj small)
 
 module _ {s : Poses} {q : Query} {k r i filled kept : ℕ} {picks₀ lows₀ marks₀ picks lows marks reach : List ℕ} {found : ℕ} (p : RoundPart s q k r i filled picks₀ lows₀ marks₀ kept picks lows marks reach found) where
-  pub part-more : (b : ℕ) {kept′ : ℕ} {picks′ lows′ marks′ : List ℕ} → i < s .m → i < length reach → b ≡ best s (round s (rounds s r) i) i → Goes s q k (round s (rounds s r) i) (next s (round s (rounds s r) i) i) kept picks lows marks kept′ picks′ lows′ marks′ → RoundPart s q k r (i + 1) filled picks₀ lows₀ marks₀ kept′ picks′ lows′ marks′ (set reach i b) (found + once (ltb b (s .n)))
+  pub part-more : (b : ℕ) {kept′ : ℕ} {picks′ lows′ marks′ : List ℕ} → i < s .m → i < length reach
+      → b ≡ best s (round s (rounds s r) i) i
+      → Goes s q k (round s (rounds s r) i) (next s (round s (rounds s r) i) i) kept picks lows marks kept′ picks′ lows′ marks′
+      → RoundPart s q k r (i + 1) filled picks₀ lows₀ marks₀ kept′ picks′ lows′ marks′ (set reach i b) (found + once (ltb b (s .n)))
   unfolding round
   part-more b hi inside e turn =
       let tr = round s (rounds s r) i in

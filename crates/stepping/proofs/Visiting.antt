@@ -47,7 +47,8 @@ module _ (d m n : ℕ) (work tally : List ℕ) where
   count-before i p hi hp = visiting-at i i p hi hp ∙ rw (le-ltb i i (omega arith), add-zero)
 
   -- one list more
-  counts-more : (i p j q : ℕ) → getD work (i * n + d) 0 - 1 ≡ p → cond (eqb i j && eqb p q) (getD tally (i * n + p) 0 + 1) (counts i j q) ≡ counts (i + 1) j q
+  counts-more : (i p j q : ℕ) → getD work (i * n + d) 0 - 1 ≡ p
+      → cond (eqb i j && eqb p q) (getD tally (i * n + p) 0 + 1) (counts i j q) ≡ counts (i + 1) j q
   unfolding counts
   counts-more i p j q place =
       by-cases (eqb i j)
@@ -66,7 +67,8 @@ module _ (d m n : ℕ) (work tally : List ℕ) where
           (λ (y : ltb j i ≡ true). rw (y, lt-ltb j (i + 1) (omega (arith, ltb-true j i y))))
           (λ (w : ltb j i ≡ false). rw (w, le-ltb j (i + 1) (omega (arith, ltb-false j i w))))
 
-  pub visiting-goes-on : (i p : ℕ) → i < m → p < n → getD work (i * n + d) 0 - 1 ≡ p → set (visitedIn d m n work tally i) (i * n + p) (getD (visitedIn d m n work tally i) (i * n + p) 0 + 1) ≡ visitedIn d m n work tally (i + 1)
+  pub visiting-goes-on : (i p : ℕ) → i < m → p < n → getD work (i * n + d) 0 - 1 ≡ p
+      → set (visitedIn d m n work tally i) (i * n + p) (getD (visitedIn d m n work tally i) (i * n + p) 0 + 1) ≡ visitedIn d m n work tally (i + 1)
   unfolding visitedIn counts
   visiting-goes-on i p hi hp place =
       let old : getD (visitedIn d m n work tally i) (i * n + p) 0 ≡ getD tally (i * n + p) 0 = count-before i p hi hp in
@@ -78,7 +80,8 @@ module _ (d m n : ℕ) (work tally : List ℕ) where
       ∙ table-same (λ j q. cond (eqb i j && eqb p q) (getD tally (i * n + p) 0 + 1) (counts i j q)) (counts (i + 1)) n m (λ j q hj hq. counts-more i p j q place)))
 
 -- where a walk ends: at the first position that was not visited, or past the last
-pub walked-is : (i n b : ℕ) (tally : List ℕ) → b ≤ n → ((p : ℕ) → p < b → getD tally (i * n + p) 0 ≡ 0 → ⊥) → (b < n → getD tally (i * n + b) 0 ≡ 0) → b ≡ walkedTo i n tally
+pub walked-is : (i n b : ℕ) (tally : List ℕ) → b ≤ n → ((p : ℕ) → p < b → getD tally (i * n + p) 0 ≡ 0 → ⊥)
+    → (b < n → getD tally (i * n + b) 0 ≡ 0) → b ≡ walkedTo i n tally
 unfolding walkedTo
 walked-is i n b tally h before stop =
     let t : ℕ → Bool = λ p. eqb (getD tally (i * n + p) 0) 0 in

@@ -33,7 +33,8 @@ pub record Listing (f : ℕ → ℕ) (l picks₀ lows₀ : List ℕ) (filled : �
 
 -- Whatever items stand in the slices in the order of their scores, the first k of them stand there once d is among them
 pub record Inserted (d x k filled : ℕ) (picks lows : List ℕ) (r : ℕ) (picks′ lows′ : List ℕ) : Type 0 where
-  pub inserts : (f : ℕ → ℕ) (l picks₀ lows₀ : List ℕ) → Listing f l picks₀ lows₀ filled picks lows → x ≡ f d → among d l ≡ false → Listing f (take k (insert (ahead f f) d l)) picks₀ lows₀ r picks′ lows′
+  pub inserts : (f : ℕ → ℕ) (l picks₀ lows₀ : List ℕ) → Listing f l picks₀ lows₀ filled picks lows → x ≡ f d
+      → among d l ≡ false → Listing f (take k (insert (ahead f f) d l)) picks₀ lows₀ r picks′ lows′
 
 -- Item d has a position in each of m lists that lie within the tally and the work slice, and no count there is too large
 pub record Visitable (d m n : ℕ) (tally work : List ℕ) : Type 0 where

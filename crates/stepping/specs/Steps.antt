@@ -23,20 +23,26 @@ use Rattle.stepping.specs.Contracts.{Keeps, Visitable}
 use Rattle.stepping.specs.State.{ranking, State, Goes, Meeting, Standing}
 
 module _ {s : Poses} {q : Query} {k : ℕ} where
-  pub goes-none : (tr : List Access) {filled : ℕ} {picks lows marks : List ℕ} → Goes s q k tr tr filled picks lows marks filled picks lows marks
+  pub goes-none : (tr : List Access) {filled : ℕ} {picks lows marks : List ℕ}
+      → Goes s q k tr tr filled picks lows marks filled picks lows marks
   goes-none tr = record { step = λ picks₀ lows₀ tally₀ at. at }
 
-  pub goes-on : {tr tr′ tr″ : List Access} {f f′ f″ : ℕ} {a b c a′ b′ c′ a″ b″ c″ : List ℕ} → Goes s q k tr tr′ f a b c f′ a′ b′ c′ → Goes s q k tr′ tr″ f′ a′ b′ c′ f″ a″ b″ c″ → Goes s q k tr tr″ f a b c f″ a″ b″ c″
+  pub goes-on : {tr tr′ tr″ : List Access} {f f′ f″ : ℕ} {a b c a′ b′ c′ a″ b″ c″ : List ℕ}
+      → Goes s q k tr tr′ f a b c f′ a′ b′ c′ → Goes s q k tr′ tr″ f′ a′ b′ c′ f″ a″ b″ c″
+      → Goes s q k tr tr″ f a b c f″ a″ b″ c″
   goes-on g h = record { step = λ picks₀ lows₀ tally₀ at. h .step picks₀ lows₀ tally₀ (g .step picks₀ lows₀ tally₀ at) }
 
-  pub goes-to : {tr tr′ tr″ : List Access} {f f′ : ℕ} {a b c a′ b′ c′ : List ℕ} → tr′ ≡ tr″ → Goes s q k tr tr′ f a b c f′ a′ b′ c′ → Goes s q k tr tr″ f a b c f′ a′ b′ c′
+  pub goes-to : {tr tr′ tr″ : List Access} {f f′ : ℕ} {a b c a′ b′ c′ : List ℕ} → tr′ ≡ tr″
+      → Goes s q k tr tr′ f a b c f′ a′ b′ c′ → Goes s q k tr tr″ f a b c f′ a′ b′ c′
   goes-to e g = rw e at g
 
-  pub state-now : {tr tr′ : List Access} {f f′ : ℕ} {a b c a′ b′ c′ work : List ℕ} → Standing s q k tr f a b c work → Goes s q k tr tr′ f a b c f′ a′ b′ c′ → State s q k tr′ a b c f′ a′ b′ c′
+  pub state-now : {tr tr′ : List Access} {f f′ : ℕ} {a b c a′ b′ c′ work : List ℕ} → Standing s q k tr f a b c work
+      → Goes s q k tr tr′ f a b c f′ a′ b′ c′ → State s q k tr′ a b c f′ a′ b′ c′
   state-now {f = f} {a = a} {b = b} {c = c} st g = g .step a b c (st .state)
 
 -- what the tally slice holds at a position
-pub mark-at : (s : Poses) (tr : List Access) (tally₀ : List ℕ) {marks : List ℕ} → marks ≡ over (tally s tr) tally₀ → (i p : ℕ) → i < s .m → p < s .n → getD marks (i * s .n + p) 0 ≡ times tr i p
+pub mark-at : (s : Poses) (tr : List Access) (tally₀ : List ℕ) {marks : List ℕ} → marks ≡ over (tally s tr) tally₀
+    → (i p : ℕ) → i < s .m → p < s .n → getD marks (i * s .n + p) 0 ≡ times tr i p
 unfolding tally
 mark-at s tr tally₀ is i p hi hp =
     rw is
@@ -66,7 +72,9 @@ module _ (m n rule : ℕ) (weights items scores work : List ℕ) (r : Readable (
   pub small-of : Small weights scores
   small-of = record { weights-small = r .weights-small; scores-small = r .scores-small }
 
-  pub keeps-now : {q : Query} {k filled₀ filled : ℕ} {tr : List Access} {picks₀ lows₀ tally₀ picks lows marks : List ℕ} → Keeps k filled₀ picks₀ lows₀ → State (poses m n items scores) q k tr picks₀ lows₀ tally₀ filled picks lows marks → Keeps k filled picks lows
+  pub keeps-now : {q : Query} {k filled₀ filled : ℕ} {tr : List Access} {picks₀ lows₀ tally₀ picks lows marks : List ℕ}
+      → Keeps k filled₀ picks₀ lows₀ → State (poses m n items scores) q k tr picks₀ lows₀ tally₀ filled picks lows marks
+      → Keeps k filled picks lows
   keeps-now {q} {k} {tr = tr} keeps at =
       let l = at .shortlist in
       record {
@@ -76,7 +84,10 @@ module _ (m n rule : ℕ) (weights items scores work : List ℕ) (r : Readable (
         lows-long = omega (arith, keeps .lows-long, l .lows-as-long);
       }
 
-  pub visitable-of : {q : Query} {k filled : ℕ} {tr : List Access} {picks₀ lows₀ tally₀ picks lows marks : List ℕ} → State (poses m n items scores) q k tr picks₀ lows₀ tally₀ filled picks lows marks → m * n ≤ length tally₀ → (d : ℕ) → d < n → ((i : ℕ) → i < m → times tr i (place (poses m n items scores) i d) ≤ 8) → Visitable d m n marks work
+  pub visitable-of : {q : Query} {k filled : ℕ} {tr : List Access} {picks₀ lows₀ tally₀ picks lows marks : List ℕ}
+      → State (poses m n items scores) q k tr picks₀ lows₀ tally₀ filled picks lows marks → m * n ≤ length tally₀
+      → (d : ℕ) → d < n → ((i : ℕ) → i < m → times tr i (place (poses m n items scores) i d) ≤ 8)
+      → Visitable d m n marks work
   visitable-of {tr = tr} {tally₀ = tally₀} at long d hd few =
       let v = r .lists-valid in
       let w = r .work-placed in
@@ -92,7 +103,11 @@ module _ (m n rule : ℕ) (weights items scores work : List ℕ) (r : Readable (
             rw (back, mark-at (poses m n items scores) tr tally₀ (at .tally-is) i (place (poses m n items scores) i d) hi (v .has-place i d hi hd)) (few i hi);
       }
 
-  pub meeting-of : {k filled₀ filled : ℕ} {tr : List Access} {picks₀ lows₀ tally₀ picks lows marks : List ℕ} → Keeps k filled₀ picks₀ lows₀ → m * n ≤ length tally₀ → State (poses m n items scores) (queryWith rule weights) k tr picks₀ lows₀ tally₀ filled picks lows marks → (d : ℕ) → d < n → ((i : ℕ) → i < m → times tr i (place (poses m n items scores) i d) ≤ 8) → Meeting d m n k filled weights scores picks lows marks work
+  pub meeting-of : {k filled₀ filled : ℕ} {tr : List Access} {picks₀ lows₀ tally₀ picks lows marks : List ℕ}
+      → Keeps k filled₀ picks₀ lows₀ → m * n ≤ length tally₀
+      → State (poses m n items scores) (queryWith rule weights) k tr picks₀ lows₀ tally₀ filled picks lows marks
+      → (d : ℕ) → d < n → ((i : ℕ) → i < m → times tr i (place (poses m n items scores) i d) ≤ 8)
+      → Meeting d m n k filled weights scores picks lows marks work
   meeting-of keeps long at d hd few =
       record {
         m-least = r .lists-valid .size .m-least;
@@ -103,7 +118,8 @@ module _ (m n rule : ℕ) (weights items scores work : List ℕ) (r : Readable (
       }
 
 -- in the middle of a row: no item's places were visited more than m times
-pub row-count : (s : Poses) → Valid s → (p i j d : ℕ) → p < s .n → i ≤ s .m → j < s .m → d < s .n → times (rowsTA s p ++ rowTA s p i) j (place s j d) ≤ 8
+pub row-count : (s : Poses) → Valid s → (p i j d : ℕ) → p < s .n → i ≤ s .m → j < s .m → d < s .n
+    → times (rowsTA s p ++ rowTA s p i) j (place s j d) ≤ 8
 unfolding rowsTA
 row-count s v p i j d hp hi hj hd =
     let place-in = v .has-place j d hj hd in

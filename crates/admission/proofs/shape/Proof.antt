@@ -16,7 +16,8 @@ sizes-right c =
     let after-wrong-size = c .before in
     sym (after-wrong-size .wrong-size .ensures) ∙ c .if1 .left
 
-k-right : (c : tie.Else2) → wrongK ((c .before .before .before .before .before) .args .k) ((c .before .before .before .before .before) .args .n) ≡ false
+k-right : (c : tie.Else2)
+    → wrongK ((c .before .before .before .before .before) .args .k) ((c .before .before .before .before .before) .args .n) ≡ false
 k-right c =
     let after-wrong-k = c .before in
     sym (after-wrong-k .wrong-k .ensures) ∙ c .if2 .left
@@ -27,7 +28,8 @@ rule-right c =
     let at-start = c .before .before .before .before .before .before in
     le-ltb 2 (at-start .args .rule) (c .if3 .left)
 
-weights-right : (c : tie.Else4) → wrongWeights ((c .before .before .before .before .before .before .before .before) .args .m) ((c .before .before .before .before .before .before .before .before) .args .weights .now) ≡ false
+weights-right : (c : tie.Else4)
+    → wrongWeights ((c .before .before .before .before .before .before .before .before) .args .m) ((c .before .before .before .before .before .before .before .before) .args .weights .now) ≡ false
 weights-right c =
     let after-wrong-weights = c .before in
     sym (after-wrong-weights .wrong-weights .ensures) ∙ c .if4 .left

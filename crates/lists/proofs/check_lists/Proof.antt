@@ -18,12 +18,14 @@ abbrev given : (c : tie.Start) → Poses
 given c = poses (c .args .m) (c .args .n) (c .args .items .now) (c .args .scores .now)
 
 -- test 1 passed
-size-passed : (c : tie.Else1) → wrongSize ((c .before .before .before .before .before) .args .m) ((c .before .before .before .before .before) .args .n) ≡ false
+size-passed : (c : tie.Else1)
+    → wrongSize ((c .before .before .before .before .before) .args .m) ((c .before .before .before .before .before) .args .n) ≡ false
 size-passed c =
     let after-wrong-size = c .before in
     sym (after-wrong-size .wrong-size .ensures) ∙ c .if1 .left
 
-size-small : (c : tie.Else1) → (c .before .before .before .before .before) .args .m * (c .before .before .before .before .before) .args .n ≤ 8192
+size-small : (c : tie.Else1)
+    → (c .before .before .before .before .before) .args .m * (c .before .before .before .before .before) .args .n ≤ 8192
 size-small c =
     let at-start = c .before .before .before .before .before in
     size-fits (sized (at-start .args .m) (at-start .args .n) (size-passed c))

@@ -40,7 +40,8 @@ record Here (i n p items scores : ℕ) : Type 0 where
 abbrev start : (c : tie.In-loop Inv-loop μ-loop) → tie.Start Inv-loop μ-loop
 start c = c .before .before .before .before .before .before .before .before .before
 
-here : (c : tie.In-loop Inv-loop μ-loop) → Here (start c .args .i) (start c .args .n) (c .before .loop .p) (length (start c .args .items .now)) (length (start c .args .scores .now))
+here : (c : tie.In-loop Inv-loop μ-loop)
+    → Here (start c .args .i) (start c .args .n) (c .before .loop .p) (length (start c .args .items .now)) (length (start c .args .scores .now))
 here c =
     let at-start = start c in
     record {

@@ -31,7 +31,8 @@ record Here (i m n items scores work : ℕ) : Type 0 where
 abbrev start : (c : tie.In-loop Inv-loop μ-loop) → tie.Start Inv-loop μ-loop
 start c = c .before .before .before .before .before
 
-here : (c : tie.In-loop Inv-loop μ-loop) → Here ((c .before) .loop .i) ((start c) .args .m) ((start c) .args .n) (length ((start c) .args .items .now)) (length ((start c) .args .scores .now)) (length ((c .before) .loop .work))
+here : (c : tie.In-loop Inv-loop μ-loop)
+    → Here ((c .before) .loop .i) ((start c) .args .m) ((start c) .args .n) (length ((start c) .args .items .now)) (length ((start c) .args .scores .now)) (length ((c .before) .loop .work))
 here c =
     let at-loop = c .before in
     let at-start = c .before .before .before .before .before in
@@ -91,7 +92,8 @@ note-list-requires c κs =
     }
 
 -- the row comes back as long as it was lent, and so does the work slice
-row-back : (c : tie.After-note-list Inv-loop μ-loop) → length (c .note-list .last .1 .1 .1 .1 .0) ≡ (c .before .before .before .before .before .before .before) .args .n
+row-back : (c : tie.After-note-list Inv-loop μ-loop)
+    → length (c .note-list .last .1 .1 .1 .1 .0) ≡ (c .before .before .before .before .before .before .before) .args .n
 row-back c =
     let at-loop = c .before .before .before in
     let at-start = c .before .before .before .before .before .before .before in
@@ -99,7 +101,8 @@ row-back c =
     let from = at-loop .loop .i * at-start .args .n in
     omega (arith, c .note-list .kept .1 .1 .1 .1 .0, mid-len from (from + at-start .args .n) (at-loop .loop .work) (here in-turn .row-in-work))
 
-work-back : (c : tie.After-note-list Inv-loop μ-loop) → length (putMid ((c .before .before .before) .loop .i * (c .before .before .before .before .before .before .before) .args .n) ((c .before .before .before) .loop .i * (c .before .before .before .before .before .before .before) .args .n + (c .before .before .before .before .before .before .before) .args .n - (c .before .before .before) .loop .i * (c .before .before .before .before .before .before .before) .args .n) ((c .before .before .before) .loop .work) (c .note-list .last .1 .1 .1 .1 .0)) ≡ length ((c .before .before .before .before .before .before .before) .args .work .now)
+work-back : (c : tie.After-note-list Inv-loop μ-loop)
+    → length (putMid ((c .before .before .before) .loop .i * (c .before .before .before .before .before .before .before) .args .n) ((c .before .before .before) .loop .i * (c .before .before .before .before .before .before .before) .args .n + (c .before .before .before .before .before .before .before) .args .n - (c .before .before .before) .loop .i * (c .before .before .before .before .before .before .before) .args .n) ((c .before .before .before) .loop .work) (c .note-list .last .1 .1 .1 .1 .0)) ≡ length ((c .before .before .before .before .before .before .before) .args .work .now)
 work-back c =
     let at-loop = c .before .before .before in
     let at-start = c .before .before .before .before .before .before .before in

@@ -41,7 +41,8 @@ join-most rule (suc i) a b =
     (λ (w : eqb rule 1 ≡ false). rw w (omega arith))))
 
 -- a local score is at most 65,535, and its product at most 65,535,000
-read-most : (n d depth i : ℕ) (high : Bool) (scores work : List ℕ) → ((j : ℕ) → getD scores j 0 ≤ 65535) → readAt n scores work d depth (unread high n scores depth) i ≤ 65535
+read-most : (n d depth i : ℕ) (high : Bool) (scores work : List ℕ) → ((j : ℕ) → getD scores j 0 ≤ 65535)
+    → readAt n scores work d depth (unread high n scores depth) i ≤ 65535
 unfolding readAt unread
 read-most n d depth i high scores work small =
     by-cases (leb (getD work (i * n + d) 0) depth)
@@ -62,7 +63,8 @@ local-score-requires c κs =
     let in-turn = c in
     (at-start .pre .0, in-turn .loop-test .taken)
 
-product-most : (c : tie.After-local-score Inv-loop μ-loop) → c .local-score .result * getD ((c .before .before .before .before .before) .args .t7) ((c .before .before) .loop .i) 0 ≤ 65535000
+product-most : (c : tie.After-local-score Inv-loop μ-loop)
+    → c .local-score .result * getD ((c .before .before .before .before .before) .args .t7) ((c .before .before) .loop .i) 0 ≤ 65535000
 product-most c =
     let at-start = c .before .before .before .before .before in
     let at-loop = c .before .before in

@@ -42,7 +42,8 @@ past-12 c =
     past-11 else2 ∙ rw (eq-eqb (byte b 4) 1 (c .if3 .left))
 
 -- test 1 at the sizes of the record
-size-tested : (c : tie.After-wrong-size) → wrongSize (listsM (lent (c .before .before .before .before .before .before .before .before .before))) (listsN (lent (c .before .before .before .before .before .before .before .before .before))) ≡ c .wrong-size .result
+size-tested : (c : tie.After-wrong-size)
+    → wrongSize (listsM (lent (c .before .before .before .before .before .before .before .before .before))) (listsN (lent (c .before .before .before .before .before .before .before .before .before))) ≡ c .wrong-size .result
 size-tested c =
     let after-m = c .before .before in
     let after-n = c .before in
@@ -63,7 +64,8 @@ size-small c =
     size-fits (sized (after-m .lists-m .result) (after-n .lists-n .result) (sym (after-size .wrong-size .ensures) ∙ c .if4 .left))
 
 -- what the length is compared with is what the counts say
-counted : (c : tie.Else4) → 4 + 2 * c .before .before .before .lists-m .result + 4 * (c .before .before .before .lists-m .result * c .before .before .lists-n .result) ≡ listsSays (lent (c .before .before .before .before .before .before .before .before .before .before))
+counted : (c : tie.Else4)
+    → 4 + 2 * c .before .before .before .lists-m .result + 4 * (c .before .before .before .lists-m .result * c .before .before .lists-n .result) ≡ listsSays (lent (c .before .before .before .before .before .before .before .before .before .before))
 counted c =
     let after-m = c .before .before .before in
     let after-n = c .before .before in

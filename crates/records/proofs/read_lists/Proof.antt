@@ -19,7 +19,8 @@ passed c =
     lists-accepted (at-start .args .bytes .now) (after-head .lists-head .ensures) (c .if1 .left)
 
 -- the sizes that were read
-sizes : (c : tie.After-lists-n) → Sizes (c .before .before .before .before .before .before .before .args .bytes .now) (c .before .lists-m .result) (c .lists-n .result)
+sizes : (c : tie.After-lists-n)
+    → Sizes (c .before .before .before .before .before .before .before .args .bytes .now) (c .before .lists-m .result) (c .lists-n .result)
 sizes c =
     let at-start = c .before .before .before .before .before .before .before in
     let after-m = c .before in

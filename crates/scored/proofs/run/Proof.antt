@@ -51,7 +51,8 @@ loop-holds c =
     (at-start .pre .readable .lists-valid) (after-clear .clear .ensures) (after-clear .clear .kept .0) (zeros-at 8)
 
 -- the cleared tally is long enough
-tally-room : (c : tie.After-clear Inv-loop μ-loop) → (c .before .before .before .before .before .before .before .before) .args .m * (c .before .before .before .before .before .before .before .before) .args .n ≤ length (c .clear .last .0)
+tally-room : (c : tie.After-clear Inv-loop μ-loop)
+    → (c .before .before .before .before .before .before .before .before) .args .m * (c .before .before .before .before .before .before .before .before) .args .n ≤ length (c .clear .last .0)
 tally-room c =
     let at-start = c .before .before .before .before .before .before .before .before in
     omega (arith, at-start .pre .tally-long, c .clear .kept .0)
@@ -93,7 +94,8 @@ places-requires c κs =
     (at-loop .loop .inv) (after-step .step .ensures)
 
 -- one row or round later
-later : (c : tie.After-places Inv-loop μ-loop) → After ((c .before .before .before .before .before .before .before .before .before .before .before .before .before .before .before .before .before .before .before .before .before .before .before .before .before) .args .which) (lent (c .before .before .before .before .before .before .before .before .before .before .before .before .before .before .before .before .before .before .before .before .before .before .before .before .before)) (asked (c .before .before .before .before .before .before .before .before .before .before .before .before .before .before .before .before .before .before .before .before .before .before .before .before .before)) ((c .before .before .before .before .before .before .before .before .before .before .before .before .before .before .before .before .before .before .before .before .before .before .before .before .before) .args .k) ((c .before .before .before .before .before .before .before .before .before .before .before .before .before .before .before .before .before .before .before .before .before .before .before .before .before) .args .picks .now) ((c .before .before .before .before .before .before .before .before .before .before .before .before .before .before .before .before .before .before .before .before .before .before .before .before .before) .args .lows .now) ((c .before .before .before .before .before .before .before .before .before .before .before .before .before .before .before .before .before) .clear .last .0) ((c .before .before .before .before .before .before .before .before .before .before) .step .result .filled) ((c .before .before .before .before .before .before .before .before .before .before) .step .last .1 .1 .1 .1 .1 .1 .1 .1 .1 .1 .1 .0) ((c .before .before .before .before .before .before .before .before .before .before) .step .last .1 .1 .1 .1 .1 .1 .1 .1 .1 .1 .1 .1 .0) ((c .before .before .before .before .before .before .before .before .before .before) .step .last .1 .1 .1 .1 .1 .1 .1 .1 .1 .1 .1 .1 .1 .0) (c .places .result) ((c .before .before .before .before .before .before .before .before .before .before .before .before .before .before) .loop .found + (c .before .before .before .before .before .before .before .before .before .before) .step .result .found) ((c .before .before .before .before .before .before .before .before .before .before .before .before .before .before) .loop .p + 1)
+later : (c : tie.After-places Inv-loop μ-loop)
+    → After ((c .before .before .before .before .before .before .before .before .before .before .before .before .before .before .before .before .before .before .before .before .before .before .before .before .before) .args .which) (lent (c .before .before .before .before .before .before .before .before .before .before .before .before .before .before .before .before .before .before .before .before .before .before .before .before .before)) (asked (c .before .before .before .before .before .before .before .before .before .before .before .before .before .before .before .before .before .before .before .before .before .before .before .before .before)) ((c .before .before .before .before .before .before .before .before .before .before .before .before .before .before .before .before .before .before .before .before .before .before .before .before .before) .args .k) ((c .before .before .before .before .before .before .before .before .before .before .before .before .before .before .before .before .before .before .before .before .before .before .before .before .before) .args .picks .now) ((c .before .before .before .before .before .before .before .before .before .before .before .before .before .before .before .before .before .before .before .before .before .before .before .before .before) .args .lows .now) ((c .before .before .before .before .before .before .before .before .before .before .before .before .before .before .before .before .before) .clear .last .0) ((c .before .before .before .before .before .before .before .before .before .before) .step .result .filled) ((c .before .before .before .before .before .before .before .before .before .before) .step .last .1 .1 .1 .1 .1 .1 .1 .1 .1 .1 .1 .0) ((c .before .before .before .before .before .before .before .before .before .before) .step .last .1 .1 .1 .1 .1 .1 .1 .1 .1 .1 .1 .1 .0) ((c .before .before .before .before .before .before .before .before .before .before) .step .last .1 .1 .1 .1 .1 .1 .1 .1 .1 .1 .1 .1 .1 .0) (c .places .result) ((c .before .before .before .before .before .before .before .before .before .before .before .before .before .before) .loop .found + (c .before .before .before .before .before .before .before .before .before .before) .step .result .found) ((c .before .before .before .before .before .before .before .before .before .before .before .before .before .before) .loop .p + 1)
 later c =
     let at-start = c .before .before .before .before .before .before .before .before .before .before .before .before .before .before .before .before .before .before .before .before .before .before .before .before .before in
     let after-clear = c .before .before .before .before .before .before .before .before .before .before .before .before .before .before .before .before .before in

@@ -32,7 +32,8 @@ record Here (i n at scores : ℕ) : Type 0 where
   at-least : 1 ≤ at
   at-most : at ≤ n
 
-here : (c : tie.In-loop Inv-loop μ-loop) → Here (c .before .loop .i) ((c .before .before .before) .args .n) (getD ((c .before .before .before) .args .t5) (c .before .loop .i) 0) (length ((c .before .before .before) .args .scores .now))
+here : (c : tie.In-loop Inv-loop μ-loop)
+    → Here (c .before .loop .i) ((c .before .before .before) .args .n) (getD ((c .before .before .before) .args .t5) (c .before .loop .i) 0) (length ((c .before .before .before) .args .scores .now))
 here c =
     let at-start = c .before .before .before in
     let i = c .before .loop .i in
@@ -91,7 +92,8 @@ array-read-w c =
     omega (arith, here in-turn)
 
 -- the score that was read, as the definition has it
-read-is : (c : tie.After-wider Inv-loop μ-loop) → c .wider .result ≡ getD ((c .before .before .before .before .before) .args .scores .now) ((c .before .before .before) .loop .i * (c .before .before .before .before .before) .args .n + (getD ((c .before .before .before .before .before) .args .t5) ((c .before .before .before) .loop .i) 0 - 1)) 0
+read-is : (c : tie.After-wider Inv-loop μ-loop)
+    → c .wider .result ≡ getD ((c .before .before .before .before .before) .args .scores .now) ((c .before .before .before) .loop .i * (c .before .before .before .before .before) .args .n + (getD ((c .before .before .before .before .before) .args .t5) ((c .before .before .before) .loop .i) 0 - 1)) 0
 read-is c =
     let at-loop = c .before .before .before in
     let at-start = c .before .before .before .before .before in
@@ -99,7 +101,8 @@ read-is c =
     let index : at-loop .loop .i * at-start .args .n + getD (at-start .args .t5) (at-loop .loop .i) 0 - 1 ≡ at-loop .loop .i * at-start .args .n + (getD (at-start .args .t5) (at-loop .loop .i) 0 - 1) = omega (arith, here in-turn) in
     c .wider .ensures ∙ ap (λ (x : ℕ). getD (at-start .args .scores .now) x 0) index
 
-product-small : (c : tie.After-wider Inv-loop μ-loop) → c .wider .result * getD ((c .before .before .before .before .before) .args .t2) ((c .before .before .before) .loop .i) 0 ≤ 65535000
+product-small : (c : tie.After-wider Inv-loop μ-loop)
+    → c .wider .result * getD ((c .before .before .before .before .before) .args .t2) ((c .before .before .before) .loop .i) 0 ≤ 65535000
 product-small c =
     let at-start = c .before .before .before .before .before in
     let at-loop = c .before .before .before in

@@ -24,7 +24,8 @@ record Here (i b n items : ℕ) : Type 0 where
   inside : b < n
   entry-in : i * n + b < items
 
-here : (c : tie.Else1) → Here ((c .before .before .before .before .before .before .before) .args .i) ((c .before .before .before .before .before .before .before) .args .b) ((c .before .before .before .before .before .before .before) .args .n) (length ((c .before .before .before .before .before .before .before) .args .items .now))
+here : (c : tie.Else1)
+    → Here ((c .before .before .before .before .before .before .before) .args .i) ((c .before .before .before .before .before .before .before) .args .b) ((c .before .before .before .before .before .before .before) .args .n) (length ((c .before .before .before .before .before .before .before) .args .items .now))
 here c =
     let at-start = c .before .before .before .before .before .before .before in
     let inside : at-start .args .b < at-start .args .n = omega (arith, at-start .pre .at-most, c .if1 .left) in

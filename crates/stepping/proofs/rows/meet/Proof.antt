@@ -24,7 +24,8 @@ record Here (d n place tally work : ℕ) : Type 0 where
   place-least : 1 ≤ place
   place-in : place ≤ tally
 
-here : (c : tie.Start) → Here (c .args .d) (c .args .n) (getD (c .args .work .now) (c .args .d) 0) (length (c .args .tally .now)) (length (c .args .work .now))
+here : (c : tie.Start)
+    → Here (c .args .d) (c .args .n) (getD (c .args .work .now) (c .args .d) 0) (length (c .args .tally .now)) (length (c .args .work .now))
 here c =
     let at = c .pre .visitable in
     let index : 0 * c .args .n + c .args .d ≡ c .args .d = rw zero-mul (zero-add (c .args .d)) in
@@ -56,7 +57,8 @@ wide-requires-2 : tie.Need-wide-requires-2
 wide-requires-2 c κs = tt
 
 -- the position that was read is item d's
-place-read : (c : tie.After-wide2) → c .wide2 .result ≡ getD ((c .before .before .before .before .before .before .before .before) .args .work .now) ((c .before .before .before .before .before .before .before .before) .args .d) 0
+place-read : (c : tie.After-wide2)
+    → c .wide2 .result ≡ getD ((c .before .before .before .before .before .before .before .before) .args .work .now) ((c .before .before .before .before .before .before .before .before) .args .d) 0
 place-read c =
     let at-start = c .before .before .before .before .before .before .before .before in
     let after-wide = c .before .before in
@@ -83,7 +85,8 @@ same-length : tie.Need-same-length
 same-length c = search needs
 
 -- the tally after the visit of item d
-visited-d : (c : tie.After-visit) → c .visit .last .1 .1 .1 .0 ≡ visitedOnce ((c .before .before .before .before .before .before .before .before .before .before .before) .args .d) ((c .before .before .before .before .before .before .before .before .before .before .before) .args .m) ((c .before .before .before .before .before .before .before .before .before .before .before) .args .n) ((c .before .before .before .before .before .before .before .before .before .before .before) .args .work .now) ((c .before .before .before .before .before .before .before .before .before .before .before) .args .tally .now)
+visited-d : (c : tie.After-visit)
+    → c .visit .last .1 .1 .1 .0 ≡ visitedOnce ((c .before .before .before .before .before .before .before .before .before .before .before) .args .d) ((c .before .before .before .before .before .before .before .before .before .before .before) .args .m) ((c .before .before .before .before .before .before .before .before .before .before .before) .args .n) ((c .before .before .before .before .before .before .before .before .before .before .before) .args .work .now) ((c .before .before .before .before .before .before .before .before .before .before .before) .args .tally .now)
 visited-d c =
     let at-start = c .before .before .before .before .before .before .before .before .before .before .before in
     let after-wide = c .before .before .before .before .before in

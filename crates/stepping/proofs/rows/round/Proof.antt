@@ -54,7 +54,8 @@ array-read-from c =
     omega (arith, c .loop-test .taken, at-start .pre .standing .readable .lists-valid .size .m-most)
 
 -- where the slices stand, from the state that the contract asks
-part-of : (c : tie.In-loop Inv-loop μ-loop) → RoundPart (lent (c .before .before .before .before .before .before .before .before)) (asked (c .before .before .before .before .before .before .before .before)) ((c .before .before .before .before .before .before .before .before) .args .k) ((c .before .before .before .before .before .before .before .before) .pre .done) ((c .before) .loop .i) ((c .before .before .before .before .before .before .before .before) .args .filled) ((c .before .before .before .before .before .before .before .before) .args .picks .now) ((c .before .before .before .before .before .before .before .before) .args .lows .now) ((c .before .before .before .before .before .before .before .before) .args .tally .now) ((c .before) .loop .kept) ((c .before) .loop .picks) ((c .before) .loop .lows) ((c .before) .loop .tally) ((c .before) .loop .next) ((c .before) .loop .found)
+part-of : (c : tie.In-loop Inv-loop μ-loop)
+    → RoundPart (lent (c .before .before .before .before .before .before .before .before)) (asked (c .before .before .before .before .before .before .before .before)) ((c .before .before .before .before .before .before .before .before) .args .k) ((c .before .before .before .before .before .before .before .before) .pre .done) ((c .before) .loop .i) ((c .before .before .before .before .before .before .before .before) .args .filled) ((c .before .before .before .before .before .before .before .before) .args .picks .now) ((c .before .before .before .before .before .before .before .before) .args .lows .now) ((c .before .before .before .before .before .before .before .before) .args .tally .now) ((c .before) .loop .kept) ((c .before) .loop .picks) ((c .before) .loop .lows) ((c .before) .loop .tally) ((c .before) .loop .next) ((c .before) .loop .found)
 part-of c =
     let at-loop = c .before in
     let at-start = c .before .before .before .before .before .before .before .before in
@@ -93,7 +94,10 @@ add-found c =
     omega (arith, c .looked .ensures, once-most (after-walk-on .walk-on .result) (at-start .args .n), at-loop .loop .inv .0, at-loop .loop .inv .1, at-start .pre .standing .readable .lists-valid .size .m-most)
 
 -- the position that was walked to is the list's best, after any number of rounds at which the slices stand
-best-of : (c : tie.After-walk-on Inv-loop μ-loop) (r : ℕ) → Standing (lent (c .before .before .before .before .before .before .before .before .before .before)) (asked (c .before .before .before .before .before .before .before .before .before .before)) ((c .before .before .before .before .before .before .before .before .before .before) .args .k) (rounds (lent (c .before .before .before .before .before .before .before .before .before .before)) r) ((c .before .before .before .before .before .before .before .before .before .before) .args .filled) ((c .before .before .before .before .before .before .before .before .before .before) .args .picks .now) ((c .before .before .before .before .before .before .before .before .before .before) .args .lows .now) ((c .before .before .before .before .before .before .before .before .before .before) .args .tally .now) ((c .before .before .before .before .before .before .before .before .before .before) .args .work .now) → Reached (lent (c .before .before .before .before .before .before .before .before .before .before)) (rounds (lent (c .before .before .before .before .before .before .before .before .before .before)) r) ((c .before .before .before .before .before .before .before .before .before .before) .args .best) → c .walk-on .result ≡ best (lent (c .before .before .before .before .before .before .before .before .before .before)) (round (lent (c .before .before .before .before .before .before .before .before .before .before)) (rounds (lent (c .before .before .before .before .before .before .before .before .before .before)) r) ((c .before .before .before) .loop .i)) ((c .before .before .before) .loop .i)
+best-of : (c : tie.After-walk-on Inv-loop μ-loop) (r : ℕ)
+    → Standing (lent (c .before .before .before .before .before .before .before .before .before .before)) (asked (c .before .before .before .before .before .before .before .before .before .before)) ((c .before .before .before .before .before .before .before .before .before .before) .args .k) (rounds (lent (c .before .before .before .before .before .before .before .before .before .before)) r) ((c .before .before .before .before .before .before .before .before .before .before) .args .filled) ((c .before .before .before .before .before .before .before .before .before .before) .args .picks .now) ((c .before .before .before .before .before .before .before .before .before .before) .args .lows .now) ((c .before .before .before .before .before .before .before .before .before .before) .args .tally .now) ((c .before .before .before .before .before .before .before .before .before .before) .args .work .now)
+    → Reached (lent (c .before .before .before .before .before .before .before .before .before .before)) (rounds (lent (c .before .before .before .before .before .before .before .before .before .before)) r) ((c .before .before .before .before .before .before .before .before .before .before) .args .best)
+    → c .walk-on .result ≡ best (lent (c .before .before .before .before .before .before .before .before .before .before)) (round (lent (c .before .before .before .before .before .before .before .before .before .before)) (rounds (lent (c .before .before .before .before .before .before .before .before .before .before)) r) ((c .before .before .before) .loop .i)) ((c .before .before .before) .loop .i)
 best-of c r standing reached =
     let part = (c .before .before .before) .loop .inv .3 r standing reached in
     c .walk-on .ensures
@@ -158,7 +162,8 @@ loop-again c =
     )
 
 -- the slices keep their lengths
-now-at : (c : tie.After-loop Inv-loop μ-loop) → State (lent (c .before .before .before .before .before .before .before .before)) (asked (c .before .before .before .before .before .before .before .before)) ((c .before .before .before .before .before .before .before .before) .args .k) (round (lent (c .before .before .before .before .before .before .before .before)) (rounds (lent (c .before .before .before .before .before .before .before .before)) ((c .before .before .before .before .before .before .before .before) .pre .done)) ((c .before) .loop .i)) ((c .before .before .before .before .before .before .before .before) .args .picks .now) ((c .before .before .before .before .before .before .before .before) .args .lows .now) ((c .before .before .before .before .before .before .before .before) .args .tally .now) ((c .before) .loop .kept) ((c .before) .loop .picks) ((c .before) .loop .lows) ((c .before) .loop .tally)
+now-at : (c : tie.After-loop Inv-loop μ-loop)
+    → State (lent (c .before .before .before .before .before .before .before .before)) (asked (c .before .before .before .before .before .before .before .before)) ((c .before .before .before .before .before .before .before .before) .args .k) (round (lent (c .before .before .before .before .before .before .before .before)) (rounds (lent (c .before .before .before .before .before .before .before .before)) ((c .before .before .before .before .before .before .before .before) .pre .done)) ((c .before) .loop .i)) ((c .before .before .before .before .before .before .before .before) .args .picks .now) ((c .before .before .before .before .before .before .before .before) .args .lows .now) ((c .before .before .before .before .before .before .before .before) .args .tally .now) ((c .before) .loop .kept) ((c .before) .loop .picks) ((c .before) .loop .lows) ((c .before) .loop .tally)
 now-at c =
     let at-start = c .before .before .before .before .before .before .before .before in
     let at-loop = c .before in

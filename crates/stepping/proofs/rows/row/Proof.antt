@@ -35,7 +35,8 @@ record Here (i p n items : ℕ) : Type 0 where
   inside : p < n
   entry-in : i * n + p < items
 
-here : (c : tie.In-loop Inv-loop μ-loop) → Here (c .before .loop .i) ((c .before .before .before .before .before .before .before .before) .args .p) ((c .before .before .before .before .before .before .before .before) .args .n) (length ((c .before .before .before .before .before .before .before .before) .args .items .now))
+here : (c : tie.In-loop Inv-loop μ-loop)
+    → Here (c .before .loop .i) ((c .before .before .before .before .before .before .before .before) .args .p) ((c .before .before .before .before .before .before .before .before) .args .n) (length ((c .before .before .before .before .before .before .before .before) .args .items .now))
 here c =
     let at-start = c .before .before .before .before .before .before .before .before in
     let room = table-room (c .before .loop .i) (at-start .args .m) (at-start .args .n) (c .loop-test .taken) in
@@ -114,7 +115,8 @@ loop-again c =
     (omega (arith, in-turn .loop-test .taken), rw (add-one i) (goes-to (append-assoc (rowsTA s p) (rowTA s p i) (lookup s sorted i p)) (goes-on (at-loop .loop .inv .1) more)))
 
 -- the slices keep their lengths
-now-at : (c : tie.After-loop Inv-loop μ-loop) → State (lent (c .before .before .before .before .before .before .before .before)) (queryWith ((c .before .before .before .before .before .before .before .before) .args .rule) ((c .before .before .before .before .before .before .before .before) .args .weights)) ((c .before .before .before .before .before .before .before .before) .args .k) (rowsTA (lent (c .before .before .before .before .before .before .before .before)) ((c .before .before .before .before .before .before .before .before) .args .p) ++ rowTA (lent (c .before .before .before .before .before .before .before .before)) ((c .before .before .before .before .before .before .before .before) .args .p) ((c .before) .loop .i)) ((c .before .before .before .before .before .before .before .before) .args .picks .now) ((c .before .before .before .before .before .before .before .before) .args .lows .now) ((c .before .before .before .before .before .before .before .before) .args .tally .now) ((c .before) .loop .kept) ((c .before) .loop .picks) ((c .before) .loop .lows) ((c .before) .loop .tally)
+now-at : (c : tie.After-loop Inv-loop μ-loop)
+    → State (lent (c .before .before .before .before .before .before .before .before)) (queryWith ((c .before .before .before .before .before .before .before .before) .args .rule) ((c .before .before .before .before .before .before .before .before) .args .weights)) ((c .before .before .before .before .before .before .before .before) .args .k) (rowsTA (lent (c .before .before .before .before .before .before .before .before)) ((c .before .before .before .before .before .before .before .before) .args .p) ++ rowTA (lent (c .before .before .before .before .before .before .before .before)) ((c .before .before .before .before .before .before .before .before) .args .p) ((c .before) .loop .i)) ((c .before .before .before .before .before .before .before .before) .args .picks .now) ((c .before .before .before .before .before .before .before .before) .args .lows .now) ((c .before .before .before .before .before .before .before .before) .args .tally .now) ((c .before) .loop .kept) ((c .before) .loop .picks) ((c .before) .loop .lows) ((c .before) .loop .tally)
 now-at c =
     let at-start = c .before .before .before .before .before .before .before .before in
     let at-loop = c .before in

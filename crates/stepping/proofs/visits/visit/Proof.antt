@@ -26,7 +26,8 @@ record Here (i n d place tally work : ℕ) : Type 0 where
   place-least : 1 ≤ place
   place-most : place ≤ n
 
-here : (c : tie.In-loop Inv-loop μ-loop) → Here (c .before .loop .i) ((c .before .before .before .before) .args .n) ((c .before .before .before .before) .args .d) (getD ((c .before .before .before .before) .args .work .now) (c .before .loop .i * (c .before .before .before .before) .args .n + (c .before .before .before .before) .args .d) 0) (length (c .before .loop .tally)) (length ((c .before .before .before .before) .args .work .now))
+here : (c : tie.In-loop Inv-loop μ-loop)
+    → Here (c .before .loop .i) ((c .before .before .before .before) .args .n) ((c .before .before .before .before) .args .d) (getD ((c .before .before .before .before) .args .work .now) (c .before .loop .i * (c .before .before .before .before) .args .n + (c .before .before .before .before) .args .d) 0) (length (c .before .loop .tally)) (length ((c .before .before .before .before) .args .work .now))
 here c =
     let at-start = c .before .before .before .before in
     let i = c .before .loop .i in
@@ -88,7 +89,8 @@ slice-read-tally c =
     omega (arith, here in-turn, after-wide .wide .ensures)
 
 -- the place that is visited, as the definition has it
-seen-is : (c : tie.After-wide Inv-loop μ-loop) → (c .before .before .before) .loop .i * (c .before .before .before .before .before .before) .args .n + c .wide .result - 1 ≡ (c .before .before .before) .loop .i * (c .before .before .before .before .before .before) .args .n + (getD ((c .before .before .before .before .before .before) .args .work .now) ((c .before .before .before) .loop .i * (c .before .before .before .before .before .before) .args .n + (c .before .before .before .before .before .before) .args .d) 0 - 1)
+seen-is : (c : tie.After-wide Inv-loop μ-loop)
+    → (c .before .before .before) .loop .i * (c .before .before .before .before .before .before) .args .n + c .wide .result - 1 ≡ (c .before .before .before) .loop .i * (c .before .before .before .before .before .before) .args .n + (getD ((c .before .before .before .before .before .before) .args .work .now) ((c .before .before .before) .loop .i * (c .before .before .before .before .before .before) .args .n + (c .before .before .before .before .before .before) .args .d) 0 - 1)
 seen-is c =
     let in-turn = c .before .before in
     omega (arith, here in-turn, c .wide .ensures)
