@@ -1,0 +1,46 @@
+-- `capi::searched` meets its contract: the search's answer, told.
+-- Assumes nothing.
+use borrow.Author.Needs.{needs}
+use Rattle.capi.proofs.Telling.{search-told}
+use Rattle.capi.proofs.searched.Statement.{statement}
+use Rattle.capi.proofs.searched.Tie as tie
+
+search-requires : tie.Need-search-requires
+search-requires c κs = tt
+
+tell-requires : tie.Need-tell-requires
+tell-requires c κs = tt
+
+same-length : tie.Need-same-length
+same-length c = search needs
+
+same-length-2 : tie.Need-same-length-2
+same-length-2 c = search needs
+
+same-length-3 : tie.Need-same-length-3
+same-length-3 c = search needs
+
+same-length-4 : tie.Need-same-length-4
+same-length-4 c = search needs
+
+same-length-5 : tie.Need-same-length-5
+same-length-5 c = search needs
+
+returns : tie.Need-returns
+returns c =
+    let after-search = (c .before .before .before .before .before .before .before .before .before .before .before .before) in
+    let after-tell = c in
+    search-told (after-search .search .ensures) (after-tell .tell .ensures)
+
+pub searched-spec : {M : Type 1} → statement M
+searched-spec =
+    tie.close
+    (tie.spec
+    search-requires
+    tell-requires
+    same-length
+    same-length-2
+    same-length-3
+    same-length-4
+    same-length-5
+    returns)

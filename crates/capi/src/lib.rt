@@ -1,0 +1,279 @@
+// The library under C names. A slice is a pointer and then its number of elements, an array a
+// pointer. Each function is thin over a proved one and tells the same numbers: what that one answers
+// stands in the array that C lends.
+use searches::Answer;
+ghost use Rattle.model.specs.Searches.{TA, BPA, BPA2, NRA};
+ghost use Rattle.lists.specs.Contracts.{poses};
+ghost use Rattle.running.specs.Contracts.{searchAt};
+ghost use Rattle.admission.specs.Contracts.{lentWith};
+ghost use Rattle.capi.specs.Told.{AnswerTold, SearchTold, CheckTold, QueryTold, ListsTold, PartTold};
+
+// The seven numbers of a search's answer, in the order of the header; returns the first.
+fn tell(a: Answer, told: &mut [u32; 7]) -> u32
+    ensures { λ r. ⌜ AnswerTold a r (now (told .exit)) ⌝ }
+{
+    *told = [
+        a.number,
+        a.list,
+        a.position,
+        a.rows,
+        a.sorted.0,
+        a.direct.0,
+        a.random.0,
+    ];
+    a.number
+}
+
+// The search of a number, and its answer told.
+fn searched(
+    which: u8,
+    m: usize,
+    n: usize,
+    items: &[u16],
+    scores: &[u16],
+    rule: u8,
+    k: usize,
+    weights: &[u8],
+    picks: &mut [u16],
+    lows: &mut [u32],
+    highs: &mut [u32],
+    tally: &mut [u8],
+    work: &mut [u16],
+    told: &mut [u32; 7],
+) -> u32
+    ensures { λ r. ⌜ SearchTold (searchAt which) (lentWith m n rule k (now (weights .entry)) (now (items .entry)) (now (scores .entry)) (now (picks .entry)) (now (lows .entry)) (now (highs .entry)) (now (tally .entry)) (now (work .entry))) r (now (told .exit)) (now (picks .exit)) (now (lows .exit)) (now (highs .exit)) (now (tally .exit)) (now (work .exit)) ⌝ }
+{
+    let answer = searches::search(
+        which,
+        m,
+        n,
+        items,
+        scores,
+        rule,
+        k,
+        weights,
+        picks,
+        lows,
+        highs,
+        tally,
+        work,
+    );
+    tell(answer, told)
+}
+
+// The threshold algorithm.
+#[no_mangle]
+pub extern "C" fn rutlark_ta(
+    m: usize,
+    n: usize,
+    items: &[u16],
+    scores: &[u16],
+    rule: u8,
+    k: usize,
+    weights: &[u8],
+    picks: &mut [u16],
+    lows: &mut [u32],
+    highs: &mut [u32],
+    tally: &mut [u8],
+    work: &mut [u16],
+    told: &mut [u32; 7],
+) -> u32
+    ensures { λ r. ⌜ SearchTold TA (lentWith m n rule k (now (weights .entry)) (now (items .entry)) (now (scores .entry)) (now (picks .entry)) (now (lows .entry)) (now (highs .entry)) (now (tally .entry)) (now (work .entry))) r (now (told .exit)) (now (picks .exit)) (now (lows .exit)) (now (highs .exit)) (now (tally .exit)) (now (work .exit)) ⌝ }
+{
+    searched(
+        running::TA,
+        m,
+        n,
+        items,
+        scores,
+        rule,
+        k,
+        weights,
+        picks,
+        lows,
+        highs,
+        tally,
+        work,
+        told,
+    )
+}
+
+// The best position algorithm.
+#[no_mangle]
+pub extern "C" fn rutlark_bpa(
+    m: usize,
+    n: usize,
+    items: &[u16],
+    scores: &[u16],
+    rule: u8,
+    k: usize,
+    weights: &[u8],
+    picks: &mut [u16],
+    lows: &mut [u32],
+    highs: &mut [u32],
+    tally: &mut [u8],
+    work: &mut [u16],
+    told: &mut [u32; 7],
+) -> u32
+    ensures { λ r. ⌜ SearchTold BPA (lentWith m n rule k (now (weights .entry)) (now (items .entry)) (now (scores .entry)) (now (picks .entry)) (now (lows .entry)) (now (highs .entry)) (now (tally .entry)) (now (work .entry))) r (now (told .exit)) (now (picks .exit)) (now (lows .exit)) (now (highs .exit)) (now (tally .exit)) (now (work .exit)) ⌝ }
+{
+    searched(
+        running::BPA,
+        m,
+        n,
+        items,
+        scores,
+        rule,
+        k,
+        weights,
+        picks,
+        lows,
+        highs,
+        tally,
+        work,
+        told,
+    )
+}
+
+// BPA2, by direct access.
+#[no_mangle]
+pub extern "C" fn rutlark_bpa2(
+    m: usize,
+    n: usize,
+    items: &[u16],
+    scores: &[u16],
+    rule: u8,
+    k: usize,
+    weights: &[u8],
+    picks: &mut [u16],
+    lows: &mut [u32],
+    highs: &mut [u32],
+    tally: &mut [u8],
+    work: &mut [u16],
+    told: &mut [u32; 7],
+) -> u32
+    ensures { λ r. ⌜ SearchTold BPA2 (lentWith m n rule k (now (weights .entry)) (now (items .entry)) (now (scores .entry)) (now (picks .entry)) (now (lows .entry)) (now (highs .entry)) (now (tally .entry)) (now (work .entry))) r (now (told .exit)) (now (picks .exit)) (now (lows .exit)) (now (highs .exit)) (now (tally .exit)) (now (work .exit)) ⌝ }
+{
+    searched(
+        running::BPA2,
+        m,
+        n,
+        items,
+        scores,
+        rule,
+        k,
+        weights,
+        picks,
+        lows,
+        highs,
+        tally,
+        work,
+        told,
+    )
+}
+
+// NRA, by sorted accesses alone.
+#[no_mangle]
+pub extern "C" fn rutlark_nra(
+    m: usize,
+    n: usize,
+    items: &[u16],
+    scores: &[u16],
+    rule: u8,
+    k: usize,
+    weights: &[u8],
+    picks: &mut [u16],
+    lows: &mut [u32],
+    highs: &mut [u32],
+    tally: &mut [u8],
+    work: &mut [u16],
+    told: &mut [u32; 7],
+) -> u32
+    ensures { λ r. ⌜ SearchTold NRA (lentWith m n rule k (now (weights .entry)) (now (items .entry)) (now (scores .entry)) (now (picks .entry)) (now (lows .entry)) (now (highs .entry)) (now (tally .entry)) (now (work .entry))) r (now (told .exit)) (now (picks .exit)) (now (lows .exit)) (now (highs .exit)) (now (tally .exit)) (now (work .exit)) ⌝ }
+{
+    searched(
+        running::NRA,
+        m,
+        n,
+        items,
+        scores,
+        rule,
+        k,
+        weights,
+        picks,
+        lows,
+        highs,
+        tally,
+        work,
+        told,
+    )
+}
+
+// The list check by itself.
+#[no_mangle]
+pub extern "C" fn rutlark_check_lists(
+    m: usize,
+    n: usize,
+    items: &[u16],
+    scores: &[u16],
+    work: &mut [u16],
+    told: &mut [u32; 3],
+) -> u32
+    ensures { λ r. ⌜ CheckTold (poses m n (now (items .entry)) (now (scores .entry))) (now (work .entry)) r (now (told .exit)) (now (work .exit)) ⌝ }
+{
+    let found = lists::check_lists(m, n, items, scores, work);
+    *told = [found.number, found.list, found.position];
+    found.number
+}
+
+// The read of a query record. The array's numbers are `usize`, as a search takes them.
+#[no_mangle]
+pub extern "C" fn rutlark_read_query(bytes: &[u8], told: &mut [usize; 5]) -> u32
+    ensures { λ r. ⌜ QueryTold (now (bytes .entry)) r (now (told .exit)) ⌝ }
+{
+    let q = records::read_query(bytes);
+    *told = [q.number as usize, q.rule as usize, q.k, q.c, q.bytes];
+    q.number
+}
+
+// The read of a list record into two slices.
+#[no_mangle]
+pub extern "C" fn rutlark_read_lists(
+    bytes: &[u8],
+    items: &mut [u16],
+    scores: &mut [u16],
+    told: &mut [usize; 3],
+) -> u32
+    ensures { λ r. ⌜ ListsTold (now (bytes .entry)) (now (items .entry)) (now (scores .entry)) r (now (told .exit)) (now (items .exit)) (now (scores .exit)) ⌝ }
+{
+    let read = records::read_lists(bytes, items, scores);
+    *told = [read.number as usize, read.m, read.n];
+    read.number
+}
+
+// The weights that a query is to be searched with, as a part of the one record or the other. An
+// exported function returns no slice, so it tells the record (0 the query, 1 the lists), where the
+// part starts in it and how many bytes it is. Weights that are there are at least one pair, so an
+// empty part is that of refused records.
+#[no_mangle]
+pub extern "C" fn rutlark_chosen_weights<'a>(
+    query: &'a [u8],
+    lists: &'a [u8],
+    told: &mut [usize; 3],
+) -> usize
+    ensures { λ r. ⌜ PartTold (now (query .entry)) (now (lists .entry)) r (now (told .exit)) ⌝ }
+{
+    let weights = records::chosen_weights(query, lists);
+    let size = weights.len();
+    let own = records::read_query(query);
+    if size == 0 {
+        *told = [0, 0, 0];
+        return 0;
+    }
+    if own.c == 0 {
+        *told = [1, 8, size];
+        return size;
+    }
+    *told = [0, 9, size];
+    size
+}
