@@ -7,6 +7,7 @@
 //! Lists and positions count from one and items from zero, as on the page.
 
 pub mod cases;
+pub mod compare;
 pub mod lists;
 pub mod preview;
 pub mod records;

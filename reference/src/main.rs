@@ -1,6 +1,7 @@
 //! The commands; see README.md.
 
 use rutlark_reference::cases::{self, expected_of, format::read_first, Recorded};
+use rutlark_reference::compare::{Comparison, Failure};
 use rutlark_reference::preview::{preview, MOST_BYTES_TAKEN};
 use std::io::{self, Read, Write};
 use std::path::Path;
@@ -10,7 +11,8 @@ const USAGE: &str = "usage: reference preview < input
        reference cases DIR
        reference check DIR
        reference run < cases
-       reference titles";
+       reference titles
+       reference compare HARNESS.. [--calls N] [--seed S] [--first D]";
 
 /// The two files by the names under which the crate of a program holds what it is run on and what
 /// it must write.
@@ -26,6 +28,7 @@ fn main() -> ExitCode {
         ["check", folder] => check_cases(Path::new(folder)),
         ["run"] => run_cases(),
         ["titles"] => print_titles(),
+        ["compare", _, ..] => return compare(&words[1..]),
         _ => {
             eprintln!("{USAGE}");
             return ExitCode::from(2);
@@ -163,4 +166,49 @@ fn print_titles() -> Result<(), String> {
         .map(|(at, one)| format!("{} {}\n", at + 1, one.title))
         .collect();
     print(titles.as_bytes())
+}
+
+/// Status 0 where all agree, 1 where something differs, 2 where there is nothing to compare with.
+fn compare(words: &[&str]) -> ExitCode {
+    let Some(comparison) = comparison_asked(words) else {
+        eprintln!("{USAGE}");
+        return ExitCode::from(2);
+    };
+    let (result, counted) = comparison.run();
+    let printed = print(counted.as_bytes());
+    match result {
+        Ok(()) if printed.is_ok() => ExitCode::SUCCESS,
+        Ok(()) => ExitCode::from(2),
+        Err(Failure::Difference(what)) => {
+            eprintln!("DIFFERENCE: {what}");
+            ExitCode::FAILURE
+        }
+        Err(Failure::NotRun(reason)) => {
+            eprintln!("{reason}");
+            ExitCode::from(2)
+        }
+    }
+}
+
+/// The options are taken from the end: the harness's command line may have some of its own.
+fn comparison_asked(words: &[&str]) -> Option<Comparison> {
+    let mut comparison = Comparison {
+        harness: Vec::new(),
+        calls: 200_000,
+        seed: 1,
+        first: 0,
+    };
+    let mut rest = words;
+    while let [before @ .., name, value] = rest {
+        let to = match *name {
+            "--calls" => &mut comparison.calls,
+            "--seed" => &mut comparison.seed,
+            "--first" => &mut comparison.first,
+            _ => break,
+        };
+        *to = value.parse().ok()?;
+        rest = before;
+    }
+    comparison.harness = rest.iter().map(ToString::to_string).collect();
+    (!comparison.harness.is_empty() && comparison.calls > 0).then_some(comparison)
 }

@@ -10,7 +10,8 @@ impl Generator {
         Generator(seed)
     }
 
-    fn next(&mut self) -> u64 {
+    /// Any number of 64 bits.
+    pub fn any(&mut self) -> u64 {
         self.0 = self.0.wrapping_add(0x9E37_79B9_7F4A_7C15);
         let mut mixed = self.0;
         mixed = (mixed ^ (mixed >> 30)).wrapping_mul(0xBF58_476D_1CE4_E5B9);
@@ -20,14 +21,14 @@ impl Generator {
 
     /// A number from the first to the last, both included. The slight unevenness does no harm.
     pub fn between(&mut self, first: usize, last: usize) -> usize {
-        first + (self.next() % (last - first + 1) as u64) as usize
+        first + (self.any() % (last - first + 1) as u64) as usize
     }
 
     pub fn score_up_to(&mut self, greatest: u16) -> u16 {
         self.between(0, usize::from(greatest)) as u16
     }
 
-    fn shuffle<T>(&mut self, entries: &mut [T]) {
+    pub fn shuffle<T>(&mut self, entries: &mut [T]) {
         for last in (1..entries.len()).rev() {
             entries.swap(last, self.between(0, last));
         }
