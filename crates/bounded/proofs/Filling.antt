@@ -2,12 +2,11 @@
 --     fill-whole                 all entries
 --     table-more                 one row more of a table
 -- Assumes nothing.
-use mathlib.Core.Path.{_≡_, ap, _∙_}
-use mathlib.Core.List.{List, append-assoc, append-nil}
-use Prim.Native.Nat.{ℕ, suc, _+_, _-_, _*_, _<_}
-use native.Mathlib.Numerals.{add-one}
-use lib.ListN.{length, getD, set, drop, length-append}
-use lib.Seq.{drop-cons, drop-length, set-at}
+use mathlib.Core.Path.{_≡_, ap}
+use mathlib.Core.List.{List, append-nil}
+use Prim.Native.Nat.{ℕ, suc, _+_, _-_, _*_}
+use lib.ListN.{length}
+use lib.Seq.{drop-length}
 use borrow.Rule.Slice.PartMut.{putMid}
 use Rattle.model.specs.Words.{row, table, over}
 use Rattle.laws.specs.Lists.{row-length, table-length, over-more}

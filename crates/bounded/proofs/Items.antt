@@ -6,7 +6,7 @@
 use mathlib.Core.Path.{_≡_, refl}
 use mathlib.Core.Bool.{true, false}
 use mathlib.Core.List.{List, []}
-use Prim.Native.Nat.{ℕ, suc, _+_, _≤_, _<_}
+use Prim.Native.Nat.{ℕ, suc, _+_, _≤_}
 use native.Mathlib.Nat.{not-suc-le-zero}
 use native.Mathlib.Numerals.{add-one}
 use native.Mathlib.Omega.{arith}
@@ -17,9 +17,8 @@ use Rattle.model.specs.Searches.{ahead, insert, ranked, among}
 use Rattle.laws.specs.Ahead.{never}
 use Rattle.laws.specs.Ranking.{take-insert}
 use Rattle.laws.specs.Kept.{kept-item}
-use Rattle.meeting.specs.Contracts.{Located, Small}
 use Rattle.halting.specs.Bar.{held}
-use Rattle.halting.specs.Contracts.{View, boundOf, metOf, Legible}
+use Rattle.halting.specs.Contracts.{View, boundOf, metOf}
 use Rattle.bounded.specs.Contracts.{heldOf, Inserted, Listed}
 
 module _ (v : View) (k p : ℕ) where

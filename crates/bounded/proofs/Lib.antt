@@ -2,10 +2,8 @@
 --     Filling    slices written from the front
 --     Keeping    one item into the shortlist
 --     Items      the items one after the other
---     Narrowing  the search for the row after which NRA stops
 --     Reading    what the code reads is what the definitions say; the run as a whole
 mod Filling
 mod Keeping
 mod Items
-mod Narrowing
 mod Reading

@@ -1,5 +1,5 @@
 -- What the code reads off the slices is what the definitions say of NRA's rows.
---     legible                    what reading after p rows asks
+--     legible, sought            what reading after p rows asks; what the search for the row asks
 --     low-is, high-is, met-is    an item's low and high, and whether it is met
 --     held-same, halts-same      the first k and the test, of equal lows, highs and met items
 --     kept-is, stops-is          NRA's first k and its test, as the code has them
@@ -8,14 +8,14 @@
 use mathlib.Core.Path.{_≡_, refl, sym, ap, _∙_}
 use mathlib.Core.Bool.{Bool, true, false, cond, _&&_, _||_, or-true}
 use mathlib.Core.List.{List, [], _∷_, map}
-use Prim.Native.Nat.{ℕ, suc, _+_, _-_, _*_, _≤_, _<_}
+use Prim.Native.Nat.{ℕ, _+_, _-_, _*_, _≤_, _<_}
 use native.Mathlib.Numerals.{add-one}
 use native.Mathlib.Omega.{arith}
 use lib.Dec.{eqb, leb, ltb}
 use lib.ListN.{length, getD, take}
 use borrow.Author.Tests.{eq-eqb}
 use Rattle.model.specs.Words.{lastOf, table, over}
-use Rattle.model.specs.Given.{Poses, Query, score, place, overall}
+use Rattle.model.specs.Given.{Poses, Query, item, score, place, overall}
 use Rattle.model.specs.Accesses.{rowsNRA, met}
 use Rattle.model.specs.Searches.{ahead, among, readOr, lowNRA, highNRA, NRA, kept, stops}
 use Rattle.laws.specs.Tests.{some-same, every-same}
@@ -29,7 +29,8 @@ use Rattle.bounded.specs.Depth.{tally-deep, read-deep, met-deep}
 use Rattle.halting.specs.Bar.{held, halts}
 use Rattle.bounded.specs.Stops.{kept-held, stops-halts, rows-are}
 use Rattle.halting.specs.Contracts.{View, view, boundOf, metOf, haltsOf, Legible}
-use Rattle.bounded.specs.Contracts.{heldOf, Listed, Halted, Finished}
+use Rattle.ending.specs.Contracts.{Sought, Halted}
+use Rattle.bounded.specs.Contracts.{heldOf, Listed, Finished}
 
 -- ---- equal lows, highs and met items
 module _ (n k : ℕ) (low high low′ high′ : ℕ → ℕ) (met met′ : ℕ → Bool)
@@ -91,6 +92,25 @@ module _ (m n rule : ℕ) (weights items scores work : List ℕ) (w : Readable (
         scores-small = w .scores-small;
       }
 
+  pub sought : (k : ℕ) → 1 ≤ k → k ≤ n → Sought v items k
+  unfolding item
+  sought k k-least k-most =
+      let lists = w .lists-valid in
+      let at : (i p : ℕ) → 1 ≤ p → i * n + p - 1 ≡ i * n + (p - 1) = λ i p h. omega arith in
+      record {
+        legible = legible n (lists .size .n-least) (omega arith);
+        rowed = λ p least most.
+            record {
+              items-long = lists .items-long;
+              item-small = λ i hi. rw (at i p least) (lists .is-item i (p - 1) hi (omega arith));
+              item-there = λ i d hi hd e.
+                  let there : place s i d ≡ p - 1 = omega (arith, e, w .work-placed .position-at i d hi hd) in
+                  rw (at i p least) (rw there at (lists .item-of-place i d hi hd));
+            };
+        k-least = k-least;
+        k-most = k-most;
+      }
+
   -- a local score, and what stands for one that is not read
   read-is : (p d i x y : ℕ) → i < m → d < n → x ≡ y
       → cond (leb (getD work (i * n + d) 0) p) (getD scores (i * n + getD work (i * n + d) 0 - 1) 0) x ≡ readOr s p d i y
@@ -142,8 +162,8 @@ module _ (m n rule : ℕ) (weights items scores work : List ℕ) (w : Readable (
     holds : r < n → stops s k (NRA s q) r ≡ true
     holds h = sym (stops-is k r (found .row-least)) ∙ found .holds h
 
-    fails : (p : ℕ) → suc p ≡ r → 1 ≤ p → stops s k (NRA s q) p ≡ false
-    fails p e some = sym (stops-is k p some) ∙ found .not-before p e some
+    fails : (p : ℕ) → 1 ≤ p → p < r → stops s k (NRA s q) p ≡ false
+    fails p some less = sym (stops-is k p some) ∙ found .not-sooner p some less
 
     same-list : heldOf v k r n ≡ kept s k (NRA s q) r
     same-list = kept-is k r (found .row-least)
@@ -161,7 +181,7 @@ module _ (m n rule : ℕ) (weights items scores work : List ℕ) (w : Readable (
     finishes =
         let shown = at .listing .shown in
         record {
-          rows-are = sym (rows-are s q k (w .lists-valid) (room .k-least) r (found .row-least) (found .row-most) holds fails);
+          rows-are = sym (rows-are s q k r (found .row-least) (found .row-most) holds fails);
           ran = record {
             shortlist = record {
               picks-are = shown .picks-are ∙ ap (λ (x : List ℕ). over x picks₀) same-list;

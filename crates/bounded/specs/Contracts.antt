@@ -3,23 +3,19 @@
 --     Spaced, Keeps          k places are lent for the shortlist; the first `filled` of them hold items
 --     Listing, Inserted      items in the order in the three slices; what an insertion promises of any such items
 --     Listed, Considered     the first k items below c after p rows, in the three slices; one item more
---     Halted                 the row after which NRA stops
 --     Finished               what the run of NRA promises
 -- Assumes nothing.
 use mathlib.Core.Path.{_≡_}
-use mathlib.Core.Bool.{Bool, true, false, cond}
+use mathlib.Core.Bool.{true, false}
 use mathlib.Core.List.{List}
-use Prim.Native.Nat.{ℕ, suc, _+_, _*_, _≤_, _<_}
-use lib.Dec.{leb, ltb}
-use lib.ListN.{length, getD, take}
-use Rattle.model.specs.Words.{someBelow}
-use Rattle.model.specs.Given.{Poses, Query, joined}
+use Prim.Native.Nat.{ℕ, _+_, _≤_}
+use lib.ListN.{length, take}
+use Rattle.model.specs.Given.{Poses, Query}
 use Rattle.model.specs.Searches.{ahead, insert, among, rows, NRA}
-use Rattle.laws.specs.Passing.{passing}
 use Rattle.laws.specs.Ranking.{Sorted}
-use Rattle.meeting.specs.Contracts.{readAt, unread, Shown, Ran}
+use Rattle.meeting.specs.Contracts.{Shown, Ran}
 use Rattle.halting.specs.Bar.{held}
-use Rattle.halting.specs.Contracts.{View, boundOf, metOf, haltsOf}
+use Rattle.halting.specs.Contracts.{View, boundOf, metOf}
 
 -- the first k of the met items below c
 unfoldable pub heldOf : View → ℕ → ℕ → ℕ → List ℕ
@@ -57,13 +53,6 @@ pub record Listed (v : View) (k p c : ℕ) (picks₀ lows₀ highs₀ : List ℕ
 pub record Considered (v : View) (k p d filled : ℕ) (picks lows highs : List ℕ) (r : ℕ) (picks′ lows′ highs′ : List ℕ) : Type 0 where
   pub considers : (picks₀ lows₀ highs₀ : List ℕ) → Listed v k p d picks₀ lows₀ highs₀ filled picks lows highs
       → Listed v k p (d + 1) picks₀ lows₀ highs₀ r picks′ lows′ highs′
-
--- The test holds after r rows, or r is n, and it does not hold after one row less
-pub record Halted (v : View) (k r : ℕ) : Type 0 where
-  pub row-least : 1 ≤ r
-  pub row-most : r ≤ v .n
-  pub holds : r < v .n → haltsOf v k r ≡ true
-  pub not-before : (q : ℕ) → suc q ≡ r → 1 ≤ q → haltsOf v k q ≡ false
 
 -- The run of NRA: the row after which it stops, and the four slices as they are then
 pub record Finished (s : Poses) (q : Query) (k r : ℕ) (picks₀ lows₀ highs₀ tally₀ picks lows highs tally : List ℕ) : Type 0 where

@@ -2,12 +2,9 @@
 --     row-times, rows-times, rows-visited    how often a position is visited in a row, and in the first p rows
 --     tally-deep                             the tally after p rows
 --     read-deep                              a local score, where its position is one of the first p
---     met-deep, met-stays                    an item is met where one of its positions is; once met, it stays so
---     all-met                                after n rows every item is met
---     low-whole                              after n rows an item's low is its high
---     low-rises, high-falls, low-most        no low falls and no high rises from row to row; a low is at most the high
+--     met-deep                               an item is met where one of its positions is
 -- Assumes nothing.
-use mathlib.Core.Path.{_≡_, refl, sym, _∙_}
+use mathlib.Core.Path.{_≡_, refl}
 use mathlib.Core.Bool.{Bool, true, false, cond, _&&_, and-true, and-false}
 use mathlib.Core.Logic.{_≢_}
 use mathlib.Core.List.{[]}
@@ -16,14 +13,12 @@ use native.Mathlib.Omega.{arith}
 use lib.Dec.{eqb, leb, ltb}
 use borrow.Author.Tests.{eqb-true, eqb-false, ltb-true, ltb-false, lt-ltb, le-ltb}
 use Rattle.model.specs.Words.{count, someBelow, table}
-use Rattle.model.specs.Given.{Poses, Query, score, place}
+use Rattle.model.specs.Given.{Poses, score, place}
 use Rattle.model.specs.Accesses.{sorted, rowNRA, rowsNRA, times, visited, met, tally}
-use Rattle.model.specs.Searches.{readOr, lowNRA, highNRA}
-use Rattle.laws.specs.Tests.{by-cases, some-hit, some-found, some-same}
+use Rattle.model.specs.Searches.{readOr}
+use Rattle.laws.specs.Tests.{by-cases, some-same}
 use Rattle.laws.specs.Lists.{table-same}
 use Rattle.laws.specs.Lookups.{once, times-append, times-one}
-use Rattle.laws.specs.Overall.{overall-same, overall-rises}
-use Rattle.laws.specs.Accepted.{Valid}
 
 -- ---- visits
 times-none : (i q : ℕ) → times [] i q ≡ 0
@@ -82,60 +77,3 @@ read-deep s p d i x h = rw (rows-visited s p i (place s i d) h)
 pub met-deep : (s : Poses) (p d : ℕ) → met s (rowsNRA s p) d ≡ someBelow (λ i. ltb (place s i d) p) (s .m)
 unfolding met
 met-deep s p d = some-same (λ i. visited (rowsNRA s p) i (place s i d)) (λ i. ltb (place s i d) p) (s .m) (λ i h. rows-visited s p i (place s i d) h)
-
--- once met, an item stays met
-pub met-stays : (s : Poses) (p r d : ℕ) → p ≤ r → met s (rowsNRA s p) d ≡ true → met s (rowsNRA s r) d ≡ true
-met-stays s p r d h y =
-    let found = some-found (λ i. ltb (place s i d) p) (s .m) (sym (met-deep s p d) ∙ y) in
-    met-deep s r d
-    ∙ some-hit (λ i. ltb (place s i d) r) (s .m) (found .0) (found .1)
-    (lt-ltb (place s (found .0) d) r (omega (arith, ltb-true (place s (found .0) d) p (found .2))))
-
-pub all-met : (s : Poses) (d : ℕ) → Valid s → d < s .n → met s (rowsNRA s (s .n)) d ≡ true
-all-met s d v h =
-    met-deep s (s .n) d
-    ∙ some-hit (λ i. ltb (place s i d) (s .n)) (s .m) 0 (v .size .m-least) (lt-ltb (place s 0 d) (s .n) (v .has-place 0 d (v .size .m-least) h))
-
--- ---- lows and highs
-module _ (s : Poses) (q : Query) where
-  pub low-rises : (p r d : ℕ) → p ≤ r → lowNRA s q p d ≤ lowNRA s q r d
-  unfolding lowNRA
-  low-rises p r d h =
-      overall-rises s q (λ i. readOr s p d i 0) (λ i. readOr s r d i 0)
-      (λ i hi.
-      rw (read-deep s p d i 0 hi, read-deep s r d i 0 hi)
-      (by-cases (ltb (place s i d) p)
-      (λ (y : ltb (place s i d) p ≡ true). rw (y, lt-ltb (place s i d) r (omega (arith, ltb-true (place s i d) p y))) (omega arith))
-      (λ (z : ltb (place s i d) p ≡ false). rw z (omega arith))))
-
-  pub low-most : (p d : ℕ) → lowNRA s q p d ≤ highNRA s q p d
-  unfolding lowNRA highNRA
-  low-most p d =
-      overall-rises s q (λ i. readOr s p d i 0) (λ i. readOr s p d i (score s i (p - 1)))
-      (λ i hi.
-      rw (read-deep s p d i 0 hi, read-deep s p d i (score s i (p - 1)) hi)
-      (by-cases (ltb (place s i d) p)
-      (λ (y : ltb (place s i d) p ≡ true). rw y (omega arith))
-      (λ (z : ltb (place s i d) p ≡ false). rw z (omega arith))))
-
-  pub high-falls : (p r d : ℕ) → Valid s → d < s .n → 1 ≤ p → p ≤ r → r ≤ s .n → highNRA s q r d ≤ highNRA s q p d
-  unfolding highNRA
-  high-falls p r d v hd some h most =
-      overall-rises s q (λ i. readOr s r d i (score s i (r - 1))) (λ i. readOr s p d i (score s i (p - 1)))
-      (λ i hi.
-      rw (read-deep s r d i (score s i (r - 1)) hi, read-deep s p d i (score s i (p - 1)) hi)
-      (by-cases (ltb (place s i d) p)
-      (λ (y : ltb (place s i d) p ≡ true). rw (y, lt-ltb (place s i d) r (omega (arith, ltb-true (place s i d) p y))) (omega arith))
-      (λ (z : ltb (place s i d) p ≡ false).
-      let late : p ≤ place s i d = ltb-false (place s i d) p z in
-      rw z
-      (by-cases (ltb (place s i d) r)
-      (λ (y : ltb (place s i d) r ≡ true). rw y (v .falls i (p - 1) (place s i d) hi (omega arith) (v .has-place i d hi hd)))
-      (λ (w : ltb (place s i d) r ≡ false). rw w (v .falls i (p - 1) (r - 1) hi (omega arith) (omega arith)))))))
-
-  pub low-whole : (d : ℕ) → Valid s → d < s .n → lowNRA s q (s .n) d ≡ highNRA s q (s .n) d
-  unfolding lowNRA highNRA
-  low-whole d v hd =
-      overall-same s q (λ i. readOr s (s .n) d i 0) (λ i. readOr s (s .n) d i (score s i (s .n - 1)))
-      (λ i hi.
-      rw (read-deep s (s .n) d i 0 hi, read-deep s (s .n) d i (score s i (s .n - 1)) hi, lt-ltb (place s i d) (s .n) (v .has-place i d hi hd)))

@@ -1,9 +1,9 @@
-// NRA: the search by bounds. Once its test holds after a row it holds after every later row, so the row
-// after which it stops is found by trying few rows: 1, 3, 7, .. and then between the last two.
+// NRA: the search by bounds. Once the row after which it stops is known, its shortlist and its tally are
+// written once.
 mod shortlist;
 mod tally;
 
-use halting::halts;
+use ending::stopping_row;
 use halting::seen;
 use meeting::bound;
 use shortlist::keep;
@@ -13,7 +13,7 @@ ghost use Prim.Native.Nat.{_≤_, _<_};
 ghost use Rattle.lists.specs.Contracts.{poses};
 ghost use Rattle.meeting.specs.Contracts.{queryWith, Readable, Room};
 ghost use Rattle.halting.specs.Contracts.{view, Legible};
-ghost use Rattle.bounded.specs.Contracts.{Spaced, Keeps, Listed, Considered, Halted, Finished};
+ghost use Rattle.bounded.specs.Contracts.{Spaced, Keeps, Listed, Considered, Finished};
 
 fn narrow(x: usize) -> u16
     requires { ⌜ x < 65536 ⌝ }
@@ -89,45 +89,6 @@ fn rank(
     filled
 }
 
-// The row to try next, where it is one of `from` to `to`: twice as deep as before, or half way.
-fn probe(from: usize, to: usize) -> usize
-    requires { ⌜ (1 ≤ from) × (from < to) × (to ≤ 1024) ⌝ }
-    ensures { λ r. ⌜ (from ≤ r) × (r < to) ⌝ }
-{
-    let middle = (from + to) / 2;
-    let deeper = from + from - 1;
-    if deeper < middle {
-        return deeper;
-    }
-    middle
-}
-
-// The row after which NRA stops: the first of 1 to n - 1 whose test holds, else n.
-fn stopping_row(
-    k: usize,
-    m: usize,
-    n: usize,
-    rule: u8,
-    weights: [u32; 8],
-    scores: &[u16],
-    work: &[u16],
-) -> usize
-    requires { ⌜ Legible (view m n rule weights (now scores) (now work)) n × (1 ≤ k) ⌝ }
-    ensures { λ r. ⌜ Halted (view m n rule weights (now (scores .entry)) (now (work .entry))) k r ⌝ }
-{
-    let mut from = 1;
-    let mut to = n;
-    while from < to {
-        let p = probe(from, to);
-        if halts(p, k, m, n, rule, weights, scores, work) {
-            to = p;
-        } else {
-            from = p + 1;
-        }
-    }
-    to
-}
-
 // The run of NRA over accepted lists, whose positions the work slice holds: the shortlist and the tally
 // are written, and the answer is the row after which it stops.
 pub fn run_nra(
@@ -147,7 +108,7 @@ pub fn run_nra(
     requires { ⌜ Readable (poses m n (now items) (now scores)) (queryWith rule weights) (now work) × Room (poses m n (now items) (now scores)) k (now picks) (now lows) (now highs) (now tally) ⌝ }
     ensures { λ r. ⌜ Finished (poses m n (now (items .entry)) (now (scores .entry))) (queryWith rule weights) k r (now (picks .entry)) (now (lows .entry)) (now (highs .entry)) (now (tally .entry)) (now (picks .exit)) (now (lows .exit)) (now (highs .exit)) (now (tally .exit)) ⌝ }
 {
-    let row = stopping_row(k, m, n, rule, weights, scores, work);
+    let row = stopping_row(k, m, n, rule, weights, items, scores, work);
     rank(
         row,
         k,

@@ -1,9 +1,8 @@
--- NRA's test by a bar, and that a search which may stop after a row may stop after every later one.
+-- NRA's test by a bar: no order is made for it.
 --     held, halts                the first k met items, by given lows and highs; NRA's test of them
 --     Parted                     a bar: k lows reach it, at most k highs are above it, and those items' lows reach it
 --     halts-parted, parted-halts     the test holds exactly where there is such a bar
 --     parts, parts-halts         the test by the k-th low alone, with no order made
---     halts-stay                 it still holds once lows have risen, highs have fallen and more items are met
 -- Assumes nothing.
 use mathlib.Core.Path.{_≡_, refl, sym, ap, _∙_}
 use mathlib.Core.Bool.{Bool, true, false, _&&_, _||_, or-comm, or-true, true≢false}
@@ -183,34 +182,6 @@ module _ (n k : ℕ) (low high : ℕ → ℕ) (met : ℕ → Bool) (some : 1 ≤
         by-cases (among d l)
         (λ (y : among d l ≡ true). rw y)
         (λ (z : among d l ≡ false). rw z (le-leb (high d) last (outside-low d hd z)))))
-
--- lows have risen, highs have fallen, more items are met
-pub halts-stay : (n k : ℕ) (low high low′ high′ : ℕ → ℕ) (met met′ : ℕ → Bool) → 1 ≤ k
-    → ((d : ℕ) → d < n → low d ≤ low′ d) → ((d : ℕ) → d < n → high′ d ≤ high d) → ((d : ℕ) → d < n → low′ d ≤ high′ d)
-    → ((d : ℕ) → d < n → met d ≡ true → met′ d ≡ true) → halts n k low high met ≡ true → halts n k low′ high′ met′ ≡ true
-halts-stay n k low high low′ high′ met met′ some rise fall most stay y =
-    let bar = low (lastOf 0 (held n k low high met)) in
-    let b = halts-parted n k low high met some y in
-    parted-halts n k low′ high′ met′ some most bar
-    (record {
-      reached = omega (
-        arith,
-        b .reached,
-        passing-wider (λ d. met d && leb bar (low d)) (λ d. met′ d && leb bar (low′ d)) n
-            (λ d hd a.
-            let both = and-yes (met d) (leb bar (low d)) a in
-            rw (stay d hd (both .0), le-leb bar (low′ d) (omega (arith, rise d hd, leb-true bar (low d) (both .1))))),
-      );
-      few-above = omega (
-        arith,
-        b .few-above,
-        passing-wider (λ d. ltb bar (high′ d)) (λ d. ltb bar (high d)) n
-            (λ d hd a. lt-ltb bar (high d) (omega (arith, fall d hd, ltb-true bar (high′ d) a))),
-      );
-      above-reach = λ d hd a.
-          let old = b .above-reach d hd (omega (arith, fall d hd)) in
-          (stay d hd (old .0), omega (arith, rise d hd, old .1));
-    })
 
 -- ---- the test by the k-th low alone
 -- each item whose high is above the bar is met and its low reaches the bar, and there are at most k of them

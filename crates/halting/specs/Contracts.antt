@@ -6,10 +6,12 @@
 --     bound-asks             what a bound asks of an item, from that
 --     markOf, Marked         an item's low as a number above 0 where it is met; each item's
 --     reachOf, Barred        how many marks are above a bar; the highest bar that k of them are above
+--     passesOf, aboveOf      an item does not stand in the way of stopping; how many highs are above a bar
 --     partsOf                NRA's test by that bar
+--     Blocking               the first item from one on that stands in the way
 -- Assumes nothing.
 use mathlib.Core.Path.{_≡_}
-use mathlib.Core.Bool.{Bool, true, false, cond}
+use mathlib.Core.Bool.{Bool, true, false, cond, _&&_, _||_}
 use mathlib.Core.List.{List}
 use Prim.Native.Nat.{ℕ, suc, _+_, _*_, _≤_, _<_}
 use lib.Dec.{leb, ltb}
@@ -109,6 +111,21 @@ pub record Barred (n k : ℕ) (marks : List ℕ) (bar : ℕ) : Type 0 where
   pub reached : k ≤ reachOf n marks bar
   pub not-next : reachOf n marks (suc bar) < k
 
+-- item d does not stand in the way of stopping: its high is not above the bar, or it is met and its low reaches the bar
+unfoldable pub passesOf : View → ℕ → ℕ → ℕ → Bool
+passesOf v p bar d = leb (boundOf v true p d) bar || (metOf v p d && leb bar (boundOf v false p d))
+
+-- how many items' highs are above the bar
+unfoldable pub aboveOf : View → ℕ → ℕ → ℕ
+aboveOf v p bar = passing (λ d. ltb bar (boundOf v true p d)) (v .n)
+
 -- NRA's test after p rows by the k-th low
 unfoldable pub partsOf : View → ℕ → ℕ → ℕ → Bool
 partsOf v k p bar = parts (v .n) k (boundOf v false p) (boundOf v true p) (metOf v p) bar
+
+-- The first item from `at` on that stands in the way, or n
+pub record Blocking (v : View) (p bar at r : ℕ) : Type 0 where
+  pub least : at ≤ r
+  pub most : r ≤ v .n
+  pub in-the-way : r < v .n → passesOf v p bar r ≡ false
+  pub none-before : (d : ℕ) → at ≤ d → d < r → passesOf v p bar d ≡ true

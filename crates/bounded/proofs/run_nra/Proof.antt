@@ -3,7 +3,7 @@
 -- Assumes nothing.
 use borrow.Author.Needs.{needs}
 use native.Mathlib.Omega.{arith}
-use Rattle.bounded.proofs.Reading.{legible, finishes}
+use Rattle.bounded.proofs.Reading.{legible, sought, finishes}
 use Rattle.bounded.proofs.run_nra.Statement.{statement}
 use Rattle.bounded.proofs.run_nra.Tie as tie
 
@@ -11,8 +11,8 @@ stopping-row-requires : tie.Need-stopping-row-requires
 stopping-row-requires c κs =
     let at-start = c .before .before .before .before .before .before .before in
     let a = at-start .args in
-    let sizes = at-start .pre .0 .lists-valid .size in
-    (legible (a .m) (a .n) (a .rule) (a .weights) (a .items .now) (a .scores .now) (a .work .now) (at-start .pre .0) (a .n) (sizes .n-least) (omega arith), at-start .pre .1 .k-least)
+    sought (a .m) (a .n) (a .rule) (a .weights) (a .items .now) (a .scores .now) (a .work .now) (at-start .pre .0) (a .k)
+    (at-start .pre .1 .k-least) (at-start .pre .1 .k-most)
 
 rank-requires : tie.Need-rank-requires
 rank-requires c κs =

@@ -6,7 +6,7 @@ use mathlib.Core.Bool.{true, false}
 use native.Mathlib.Omega.{arith}
 use Rattle.halting.specs.Contracts.{view, boundOf, metOf, markOf}
 use Rattle.halting.specs.Contracts.{bound-asks}
-use Rattle.halting.proofs.Marks.{bound-most}
+use Rattle.halting.specs.Marks.{bound-most}
 use Rattle.halting.proofs.mark.Statement.{statement}
 use Rattle.halting.proofs.mark.Tie as tie
 

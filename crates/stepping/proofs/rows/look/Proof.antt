@@ -55,7 +55,7 @@ mul-d c =
 shared-slice-read-d : tie.Need-shared-slice-read-d
 shared-slice-read-d c =
     let else1 = c .before in
-    here else1 .entry-in
+    omega (arith, here else1)
 
 meet-requires : tie.Need-meet-requires
 unfolding item

@@ -69,7 +69,7 @@ mul-d c =
 shared-slice-read-d : tie.Need-shared-slice-read-d Inv-loop μ-loop
 shared-slice-read-d c =
     let in-turn = c .before in
-    here in-turn .entry-in
+    omega (arith, here in-turn)
 
 meet-requires : tie.Need-meet-requires Inv-loop μ-loop
 unfolding item
@@ -80,11 +80,12 @@ meet-requires c κs =
     let standing = at-start .pre .0 in
     let v = standing .readable .lists-valid in
     let i = at-loop .loop .i in
-    let d = item (lent at-start) i (at-start .args .p) in
-    let small = v .is-item i (at-start .args .p) (in-turn .loop-test .taken) (at-start .pre .1) in
     meeting-of (at-start .args .m) (at-start .args .n) (at-start .args .rule) (at-start .args .weights) (at-start .args .items .now) (at-start .args .scores .now) (at-start .args .work .now)
-    (standing .readable) (standing .keeps) (standing .tally-long) (state-now standing (at-loop .loop .inv .1)) d small
-    (λ j hj. row-count (lent at-start) v (at-start .args .p) i j d (at-start .pre .1) (at-loop .loop .inv .0) hj small)
+    (standing .readable) (standing .keeps) (standing .tally-long) (state-now standing (at-loop .loop .inv .1)) _
+    (v .is-item i _ (in-turn .loop-test .taken) (omega (arith, at-start .pre .1)))
+    (λ j hj.
+    row-count (lent at-start) v (at-start .args .p) i j _ (at-start .pre .1) (at-loop .loop .inv .0) hj
+    (v .is-item i _ (in-turn .loop-test .taken) (omega (arith, at-start .pre .1))))
 
 add-i : tie.Need-add-i Inv-loop μ-loop
 add-i c =

@@ -1,31 +1,28 @@
 -- Items' marks, the k-th low, and NRA's test by it.
---     read-most, bound-most, mark-most       how large a local score, a bound and a mark are
+--     read-most, bound-most  how large a local score and a bound are
 --     low-below-high         a low is at most the high
---     once-most              a test counts at most once
---     marked                 marks written from the front
---     reach-is, reach-none   how many marks are above a bar: how many met items' lows reach it; none is above 1,073,741,824
+--     reach-is               how many marks are above a bar: how many met items' lows reach it
 --     blocks-not             an item stands in the way exactly where it fails its part of the test
---     halts-few, halts-barred    fewer than k marks: the test fails; else it is told by the highest bar that k marks are above
+--     halts-few              fewer than k marks: the test fails
+--     halts-not, halts-yes   else the highest bar that k marks are above tells: an item stands in the way; none does, and few highs are above
 -- Assumes nothing.
 use mathlib.Core.Path.{_≡_, refl, sym, _∙_}
-use mathlib.Core.Bool.{Bool, true, false, not, _&&_, _||_}
+use mathlib.Core.Bool.{Bool, true, false, not, _&&_, _||_, true≢false}
 use mathlib.Core.List.{List}
 use Prim.Native.Nat.{ℕ, suc, _+_, _-_, _*_, _≤_, _<_}
 use native.Mathlib.Nat.{mul-le-mul-right}
 use native.Mathlib.Omega.{arith}
 use lib.Dec.{leb, ltb}
-use lib.ListN.{length, getD}
+use lib.ListN.{getD}
 use borrow.Author.Tests.{leb-true, leb-false, le-leb, lt-ltb, le-ltb}
-use Rattle.model.specs.Words.{row, over, lastOf}
-use Rattle.laws.specs.Tests.{by-cases, and-yes, ltb-not-leb}
-use Rattle.laws.specs.Lists.{row-length, row-at, over-length, over-at}
-use Rattle.laws.specs.Lookups.{once}
-use Rattle.laws.specs.Passing.{passing, passing-same, passing-none, passing-wider}
+use Rattle.model.specs.Words.{lastOf}
+use Rattle.laws.specs.Tests.{by-cases, and-yes, every-all, every-at, ltb-not-leb}
+use Rattle.laws.specs.Passing.{passing, passing-same, passing-wider}
 use Rattle.laws.specs.Ahead.{never}
 use Rattle.laws.specs.Overall.{joined-rises, joined-most, product-most}
 use Rattle.meeting.specs.Contracts.{readAt, unread}
-use Rattle.halting.specs.Bar.{held, halts-parted, parts-halts}
-use Rattle.halting.specs.Contracts.{View, boundOf, metOf, haltsOf, Legible, markOf, Marked, reachOf, Barred, partsOf}
+use Rattle.halting.specs.Bar.{held, parts, halts-parted, parts-halts}
+use Rattle.halting.specs.Contracts.{View, boundOf, metOf, haltsOf, Legible, markOf, Marked, reachOf, Barred, passesOf, aboveOf, partsOf}
 
 -- what stands for a local score that is not read
 unread-most : (high : Bool) (n : ℕ) (scores : List ℕ) (p i : ℕ) → ((j : ℕ) → getD scores j 0 ≤ 65535)
@@ -50,23 +47,10 @@ read-rises n scores work d p i =
     (λ (y : leb (getD work (i * n + d) 0) p ≡ true). rw y (omega arith))
     (λ (z : leb (getD work (i * n + d) 0) p ≡ false). rw z (omega arith))
 
-pub once-most : (b : Bool) → once b ≤ 1
-once-most true = omega arith
-once-most false = omega arith
-
 not-either : (a b : Bool) → (not a && b) ≡ not (a || not b)
 not-either true b = refl
 not-either false true = refl
 not-either false false = refl
-
--- marks written from the front are the items' marks
-pub marked : {v : View} {p : ℕ} (lent : List ℕ) → v .n ≤ length lent → Marked v p (over (row (markOf v p) (v .n)) lent)
-marked {v} {p} lent long =
-    let size = row-length (markOf v p) (v .n) in
-    record {
-      marks-long = omega (arith, over-length (row (markOf v p) (v .n)) lent (omega arith));
-      marks-are = λ d hd. over-at (row (markOf v p) (v .n)) lent d 0 (omega arith) ∙ row-at (markOf v p) (v .n) d 0 hd;
-    }
 
 module _ {v : View} {p : ℕ} (w : Legible v p) where
   pub bound-most : (high : Bool) (d : ℕ) → boundOf v high p d ≤ 524280000
@@ -86,13 +70,6 @@ module _ {v : View} {p : ℕ} (w : Legible v p) where
       (λ i. readAt (v .n) (v .scores) (v .work) d p (unread true (v .n) (v .scores) p) i * getD (v .weights) i 0) (v .m)
       (λ i _. mul-le-mul-right (getD (v .weights) i 0) (read-rises (v .n) (v .scores) (v .work) d p i))
 
-  mark-most : (d : ℕ) → markOf v p d ≤ 1073741824
-  unfolding markOf
-  mark-most d =
-      by-cases (metOf v p d)
-      (λ (y : metOf v p d ≡ true). rw y (omega (arith, bound-most false d)))
-      (λ (z : metOf v p d ≡ false). rw z (omega arith))
-
   -- a mark is above a bar exactly where the item is met and its low reaches the bar
   mark-above : (bar d : ℕ) → ltb bar (markOf v p d) ≡ (metOf v p d && leb bar (boundOf v false p d))
   unfolding markOf
@@ -111,23 +88,17 @@ module _ {v : View} {p : ℕ} (w : Legible v p) where
         passing-same (λ d. ltb bar (getD marks d 0)) (λ d. metOf v p d && leb bar (boundOf v false p d)) (v .n)
         (λ d hd. rw (noted .marks-are d hd) (mark-above bar d))
 
-    pub reach-none : reachOf (v .n) marks 1073741824 ≡ 0
-    unfolding reachOf
-    reach-none =
-        passing-none (λ d. ltb 1073741824 (getD marks d 0)) (v .n)
-        (λ d hd. rw (noted .marks-are d hd) (le-ltb 1073741824 (markOf v p d) (mark-most d)))
-
     pub blocks-not : (bar d : ℕ) → d < v .n
-        → (ltb bar (boundOf v true p d) && leb (getD marks d 0) bar) ≡ not (leb (boundOf v true p d) bar || (metOf v p d && leb bar (boundOf v false p d)))
+        → (ltb bar (boundOf v true p d) && leb (getD marks d 0) bar) ≡ not (passesOf v p bar d)
+    unfolding passesOf
     blocks-not bar d hd =
         rw (noted .marks-are d hd, ← (mark-above bar d), ltb-not-leb (boundOf v true p d) bar, ltb-not-leb (markOf v p d) bar)
         (not-either (leb (boundOf v true p d) bar) (leb (markOf v p d) bar))
 
-    pub halts-few : (k : ℕ) → 1 ≤ k → reachOf (v .n) marks 0 < k → false ≡ haltsOf v k p
+    pub halts-few : (k : ℕ) → 1 ≤ k → reachOf (v .n) marks 0 < k → haltsOf v k p ≡ false
     unfolding haltsOf
     halts-few k some few =
-        sym
-        (never (haltsOf v k p)
+        never (haltsOf v k p)
         (λ y.
         let low = boundOf v false p in
         let last = low (lastOf 0 (held (v .n) k low (boundOf v true p) (metOf v p))) in
@@ -138,10 +109,24 @@ module _ {v : View} {p : ℕ} (w : Legible v p) where
           reach-is 0,
           passing-wider (λ d. metOf v p d && leb last (low d)) (λ d. metOf v p d && leb 0 (low d)) (v .n)
               (λ d _ e. rw (and-yes (metOf v p d) (leb last (low d)) e .0, le-leb 0 (low d) (omega arith))),
-        )))
+        ))
 
-    pub halts-barred : (k bar : ℕ) → 1 ≤ k → Barred (v .n) k marks bar → partsOf v k p bar ≡ haltsOf v k p
-    unfolding haltsOf partsOf
-    halts-barred k bar some b =
-        parts-halts (v .n) k (boundOf v false p) (boundOf v true p) (metOf v p) some bar (omega (arith, b .reached, reach-is bar))
-        (λ d _. low-below-high d) (omega (arith, b .not-next, reach-is (suc bar)))
+    module _ (k bar : ℕ) (some : 1 ≤ k) (b : Barred (v .n) k marks bar) where
+      halts-barred : partsOf v k p bar ≡ haltsOf v k p
+      unfolding haltsOf partsOf
+      halts-barred =
+          parts-halts (v .n) k (boundOf v false p) (boundOf v true p) (metOf v p) some bar (omega (arith, b .reached, reach-is bar))
+          (λ d _. low-below-high d) (omega (arith, b .not-next, reach-is (suc bar)))
+
+      pub halts-not : (d : ℕ) → d < v .n → passesOf v p bar d ≡ false → haltsOf v k p ≡ false
+      unfolding partsOf parts passesOf
+      halts-not d hd z =
+          sym halts-barred
+          ∙ never (partsOf v k p bar)
+          (λ y.
+          true≢false
+          (sym (every-at (λ d. leb (boundOf v true p d) bar || (metOf v p d && leb bar (boundOf v false p d))) (v .n) d (and-yes _ _ y .0) hd) ∙ z))
+
+      pub halts-yes : ((d : ℕ) → d < v .n → passesOf v p bar d ≡ true) → haltsOf v k p ≡ leb (aboveOf v p bar) k
+      unfolding partsOf parts passesOf aboveOf
+      halts-yes all = sym halts-barred ∙ rw (every-all (λ d. leb (boundOf v true p d) bar || (metOf v p d && leb bar (boundOf v false p d))) (v .n) all)

@@ -1,0 +1,37 @@
+-- The records that the contracts of `ending` cite.
+--     Kth            the k-th greatest mark, as a bar
+--     Obstructed     an item that keeps NRA from stopping, or n
+--     Sought         what the search for the row asks
+--     Halted         the row after which NRA stops
+-- Assumes nothing.
+use mathlib.Core.Path.{_≡_}
+use mathlib.Core.Bool.{true, false}
+use mathlib.Core.List.{List}
+use Prim.Native.Nat.{ℕ, _-_, _≤_, _<_}
+use Rattle.halting.specs.Contracts.{View, Legible, haltsOf, reachOf, Barred}
+use Rattle.leading.specs.Contracts.{Rowed}
+
+-- `top` is the k-th greatest mark: where it is 0, fewer than k items are met, and else it is the k-th low and one more
+pub record Kth (n k : ℕ) (marks : List ℕ) (top : ℕ) : Type 0 where
+  pub few : top ≡ 0 → reachOf n marks 0 < k
+  pub barred : 1 ≤ top → Barred n k marks (top - 1)
+
+-- NRA stops after p rows exactly where r is n
+pub record Obstructed (v : View) (k p r : ℕ) : Type 0 where
+  pub most : r ≤ v .n
+  pub stuck : r < v .n → haltsOf v k p ≡ false
+  pub free : v .n ≤ r → haltsOf v k p ≡ true
+
+-- Every row of the lists may be read, and k is one of 1 to n
+pub record Sought (v : View) (items : List ℕ) (k : ℕ) : Type 0 where
+  pub legible : Legible v (v .n)
+  pub rowed : (p : ℕ) → 1 ≤ p → p ≤ v .n → Rowed v items p
+  pub k-least : 1 ≤ k
+  pub k-most : k ≤ v .n
+
+-- The test holds after r rows, or r is n, and it holds after no row before
+pub record Halted (v : View) (k r : ℕ) : Type 0 where
+  pub row-least : 1 ≤ r
+  pub row-most : r ≤ v .n
+  pub holds : r < v .n → haltsOf v k r ≡ true
+  pub not-sooner : (p : ℕ) → 1 ≤ p → p < r → haltsOf v k p ≡ false

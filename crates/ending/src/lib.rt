@@ -1,0 +1,88 @@
+// The row after which NRA stops. Rows are read one after the other, and after each its test is asked. One
+// item that stands in the way settles it, and mostly the item that stood there after the row before still does: so long as
+// items that are not met are in the way, no other item is looked at.
+use halting::blocker;
+use halting::few_above;
+use leading::read_row;
+ghost use mathlib.Core.Path.{_≡_};
+ghost use Prim.Native.Nat.{_≤_, _<_};
+ghost use Rattle.halting.specs.Contracts.{view, Legible, Marked};
+ghost use Rattle.ending.specs.Contracts.{Kth, Obstructed, Sought, Halted};
+
+// An item that keeps NRA from stopping after p rows, or n where it stops; `top` is the k-th mark. The item
+// at `at` is asked first, then those behind it, and all of them only where none of these is in the way.
+fn obstacle(
+    at: usize,
+    p: usize,
+    k: usize,
+    top: u32,
+    m: usize,
+    n: usize,
+    rule: u8,
+    weights: [u32; 8],
+    scores: &[u16],
+    work: &[u16],
+    marks: &[u32],
+) -> usize
+    requires { ⌜ Legible (view m n rule weights (now scores) (now work)) p × Marked (view m n rule weights (now scores) (now work)) p (now marks) × (1 ≤ k) × Kth n k (now marks) top × (at < n) ⌝ }
+    ensures { λ r. ⌜ Obstructed (view m n rule weights (now (scores .entry)) (now (work .entry))) k p r ⌝ }
+{
+    if top == 0 {
+        return at;
+    }
+    let bar = top - 1;
+    let behind = blocker(at, p, bar, m, n, rule, weights, scores, work, marks);
+    if behind < n {
+        return behind;
+    }
+    let front = blocker(0, p, bar, m, n, rule, weights, scores, work, marks);
+    if front < n {
+        return front;
+    }
+    if few_above(p, k, bar, m, n, rule, weights, scores, work) {
+        return n;
+    }
+    at
+}
+
+// The row after which NRA stops: the first of 1 to n - 1 whose test holds, else n.
+pub fn stopping_row(
+    k: usize,
+    m: usize,
+    n: usize,
+    rule: u8,
+    weights: [u32; 8],
+    items: &[u16],
+    scores: &[u16],
+    work: &[u16],
+) -> usize
+    requires { ⌜ Sought (view m n rule weights (now scores) (now work)) (now items) k ⌝ }
+    ensures { λ r. ⌜ Halted (view m n rule weights (now (scores .entry)) (now (work .entry))) k r ⌝ }
+{
+    let mut marks: [u32; 1024] = [0; 1024];
+    let mut tops: [u32; 1024] = [0; 1024];
+    let mut at = 0;
+    let mut p = 1;
+    while p < n {
+        read_row(
+            p,
+            k,
+            m,
+            n,
+            rule,
+            weights,
+            items,
+            scores,
+            work,
+            &mut marks,
+            &mut tops,
+        );
+        let top = tops[k - 1];
+        at = obstacle(at, p, k, top, m, n, rule, weights, scores, work, &marks);
+        if at == n {
+            return p;
+        }
+        p += 1;
+    }
+    p
+}

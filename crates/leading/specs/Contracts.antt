@@ -1,0 +1,69 @@
+-- The records that the contracts of `leading` cite.
+--     Led            the k greatest of n marks, falling: above any bar stand as many of them as marks do, or all k
+--     Leading        each item's mark after p rows, and the k greatest of them
+--     itemAt, Rowed  the item at row p of a list; what these items are
+--     Reading        what reading a row asks, apart from the marks
+--     Seat           where a value stands among falling ones
+--     Raised         of any marks, the k greatest once one of them is raised
+--     stands, rowMark, Begun     an item stands at row p of one of the first i lists; its mark, and every item's, once these lists' row p is read
+-- Assumes nothing.
+use mathlib.Core.Path.{_≡_}
+use mathlib.Core.Bool.{Bool, cond}
+use mathlib.Core.List.{List}
+use Prim.Native.Nat.{ℕ, suc, _+_, _-_, _*_, _≤_, _<_, min}
+use lib.Dec.{eqb}
+use lib.ListN.{length, getD, set}
+use Rattle.model.specs.Words.{someBelow}
+use Rattle.halting.specs.Contracts.{View, Legible, markOf, Marked, reachOf}
+
+-- The first k of `tops` are the k greatest of n marks, falling
+pub record Led (n k : ℕ) (marks tops : List ℕ) : Type 0 where
+  pub tops-long : k ≤ length tops
+  pub falling : (j : ℕ) → suc j < k → getD tops (suc j) 0 ≤ getD tops j 0
+  pub counts : (bar : ℕ) → reachOf k tops bar ≡ min k (reachOf n marks bar)
+
+-- After p rows: each item's mark, and the k greatest of them
+pub record Leading (v : View) (p k : ℕ) (marks tops : List ℕ) : Type 0 where
+  pub marked : Marked v p marks
+  pub led : Led (v .n) k marks tops
+
+-- the item at row p of list i
+abbrev pub itemAt : View → List ℕ → ℕ → ℕ → ℕ
+itemAt v items p i = getD items (i * v .n + p - 1) 0
+
+-- At row p of each list stands an item, and it is the one whose position the work slice says is p
+pub record Rowed (v : View) (items : List ℕ) (p : ℕ) : Type 0 where
+  pub items-long : v .m * v .n ≤ length items
+  pub item-small : (i : ℕ) → i < v .m → itemAt v items p i < v .n
+  pub item-there : (i d : ℕ) → i < v .m → d < v .n → getD (v .work) (i * v .n + d) 0 ≡ p → itemAt v items p i ≡ d
+
+-- What reading row p asks, apart from the marks
+pub record Reading (v : View) (items : List ℕ) (p k : ℕ) : Type 0 where
+  pub legible : Legible v p
+  pub rowed : Rowed v items p
+  pub k-least : 1 ≤ k
+
+-- x stands at r: behind one that is not less, and all from r up to `end` are less
+pub record Seat (x end : ℕ) (tops : List ℕ) (r : ℕ) : Type 0 where
+  pub seat-most : r ≤ end
+  pub front-not-less : (j : ℕ) → suc j ≡ r → x ≤ getD tops j 0
+  pub rest-less : (j : ℕ) → r ≤ j → j < end → getD tops j 0 < x
+
+-- Of any n marks of which item d's is `old`, the k greatest once it is `new`
+pub record Raised (k old new : ℕ) (tops tops′ : List ℕ) : Type 0 where
+  pub raises : (n d : ℕ) (marks : List ℕ) → n ≤ length marks → d < n → getD marks d 0 ≡ old → old ≤ new
+      → Led n k marks tops → Led n k (set marks d new) tops′
+
+-- ---- a row, list by list
+-- item d stands at row p of one of the first i lists
+unfoldable pub stands : View → List ℕ → ℕ → ℕ → ℕ → Bool
+stands v items p i d = someBelow (λ j. eqb (itemAt v items p j) d) i
+
+-- item d's mark once row p of the first i lists is read
+unfoldable pub rowMark : View → List ℕ → ℕ → ℕ → ℕ → ℕ
+rowMark v items p i d = cond (stands v items p i d) (markOf v p d) (markOf v (p - 1) d)
+
+-- Each item's mark then
+pub record Begun (v : View) (items : List ℕ) (p i : ℕ) (marks : List ℕ) : Type 0 where
+  pub marks-long : v .n ≤ length marks
+  pub marks-are : (d : ℕ) → d < v .n → getD marks d 0 ≡ rowMark v items p i d

@@ -1,0 +1,107 @@
+// The k greatest of the items' marks, kept as rows are read and marks rise: the least of them tells the
+// k-th low, and no item but those of the row is looked at for it.
+use halting::mark;
+use lists::wide;
+use meeting::sliding::slide_scores;
+ghost use Prim.Native.Nat.{_+_, _-_, _≤_, _<_};
+ghost use lib.ListN.{length, getD};
+ghost use Rattle.halting.specs.Contracts.{view};
+ghost use Rattle.leading.specs.Contracts.{Led, Leading, Reading, Seat, Raised, Begun};
+
+// Behind how many of the first `end` entries x stands: the walk is from the last of them to the front, up
+// to one that is not less.
+fn seat(x: u32, end: usize, tops: &[u32]) -> usize
+    requires { ⌜ end ≤ length (now tops) ⌝ }
+    ensures { λ r. ⌜ Seat x end (now (tops .entry)) r ⌝ }
+{
+    let mut j = end;
+    while 0 < j {
+        let at = j - 1;
+        if x <= tops[at] {
+            return j;
+        }
+        j = at;
+    }
+    j
+}
+
+// The k greatest once a mark that was `old` is `new`. Where `old` is one of them, its own entry goes, so
+// that no item is counted twice, and else the least.
+fn raise(k: usize, old: u32, new: u32, tops: &mut [u32])
+    requires { ⌜ (1 ≤ k) × (k ≤ length (now tops)) × (old ≤ getD (now tops) 0 0) ⌝ }
+    ensures { λ _. ⌜ Raised k old new (now (tops .entry)) (now (tops .exit)) ⌝ }
+{
+    let least = k - 1;
+    if new <= tops[least] {
+        return;
+    }
+    let behind = seat(old, k, tops);
+    let last = behind - 1;
+    let at = seat(new, last, tops);
+    slide_scores(tops, at, last, new);
+}
+
+// The item that stands at row p of list i: its mark and the k greatest.
+fn read_entry(
+    i: usize,
+    p: usize,
+    k: usize,
+    m: usize,
+    n: usize,
+    rule: u8,
+    weights: [u32; 8],
+    items: &[u16],
+    scores: &[u16],
+    work: &[u16],
+    marks: &mut [u32],
+    tops: &mut [u32],
+)
+    requires { ⌜ Reading (view m n rule weights (now scores) (now work)) (now items) p k × (i < m) × Begun (view m n rule weights (now scores) (now work)) (now items) p i (now marks) × Led n k (now marks) (now tops) ⌝ }
+    ensures { λ _. ⌜ Begun (view m n rule weights (now (scores .entry)) (now (work .entry))) (now (items .entry)) p (i + 1) (now (marks .exit)) × Led n k (now (marks .exit)) (now (tops .exit)) ⌝ }
+{
+    let base = i * n;
+    let end = base + p;
+    let at = end - 1;
+    let d = wide(items[at]);
+    let new = mark(d, p, m, n, rule, weights, scores, work);
+    let old = marks[d];
+    marks[d] = new;
+    raise(k, old, new, tops);
+}
+
+// Row p: the marks after p - 1 rows, and the k greatest of them, become those after p rows.
+pub fn read_row(
+    p: usize,
+    k: usize,
+    m: usize,
+    n: usize,
+    rule: u8,
+    weights: [u32; 8],
+    items: &[u16],
+    scores: &[u16],
+    work: &[u16],
+    marks: &mut [u32],
+    tops: &mut [u32],
+)
+    requires { ⌜ Reading (view m n rule weights (now scores) (now work)) (now items) p k × Leading (view m n rule weights (now scores) (now work)) (p - 1) k (now marks) (now tops) ⌝ }
+    ensures { λ _. ⌜ Leading (view m n rule weights (now (scores .entry)) (now (work .entry))) p k (now (marks .exit)) (now (tops .exit)) ⌝ }
+{
+    let mut i = 0;
+    while i < m {
+        read_entry(
+            i,
+            p,
+            k,
+            m,
+            n,
+            rule,
+            weights,
+            items,
+            scores,
+            work,
+            marks,
+            tops,
+        );
+        i += 1;
+    }
+}
