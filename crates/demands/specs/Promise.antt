@@ -2,7 +2,8 @@
 --     Tallied        of a list of accesses: the three counts add up to the tally's sum, and no entry is above m
 --     Owed           what each of the four owes: it stops by its own test, returns k different items, and the best ones
 --     allMade        all accesses that a search makes until it stops, of whatever kind
---     Promise        all that is claimed of the four; `promised` of Promised.antt proves it
+--     Promise        all that is claimed of the four
+--     Claim          that it holds of every valid pose set, query and k; `promised` of Promised.antt proves it
 -- Assumes nothing.
 use mathlib.Core.Path.{_≡_}
 use mathlib.Core.Bool.{true, false}
@@ -12,6 +13,7 @@ use lib.ListN.{length, getD}
 use Rattle.model.specs.Given.{Poses, Query, total}
 use Rattle.model.specs.Accesses.{Access, sorted, direct, random, rowsTA, rounds, rowsNRA, times, met, made, tally}
 use Rattle.model.specs.Searches.{Search, among, kept, stops, rows, TA, BPA, BPA2, NRA, lowNRA, highNRA}
+use Rattle.laws.specs.Accepted.{Valid}
 use Rattle.laws.specs.Passing.{passing}
 use Rattle.laws.specs.Sums.{sum}
 
@@ -76,3 +78,7 @@ pub record Promise (s : Poses) (q : Query) (k : ℕ) : Type 0 where
   -- BPA2 makes no more accesses in all than BPA, and BPA no more than TA
   pub bpa2-total : allMade s k (BPA2 s q) ≤ allMade s k (BPA s q)
   pub bpa-total : allMade s k (BPA s q) ≤ allMade s k (TA s q)
+
+-- the promise holds for every valid pose set, every query and every k from 1 to n
+abbrev pub Claim : Type 0
+Claim = (s : Poses) → Valid s → (q : Query) (k : ℕ) → 1 ≤ k → k ≤ s .n → Promise s q k

@@ -28,7 +28,7 @@ use Rattle.demands.specs.Stopping
 use Rattle.demands.specs.Scores.{Sound, sound-stops, sound-best, covers-sound, best-sound}
 use Rattle.demands.specs.Compared.{bpa-stops, bpa2-stops}
 use Rattle.demands.specs.Bounds.{nra-times, nra-inside, nra-made, low-bound, high-bound, nra-stops, nra-best}
-use Rattle.demands.specs.Promise.{Tallied, Owed, allMade, Promise}
+use Rattle.demands.specs.Promise.{Tallied, Owed, allMade, Claim}
 
 -- what any search owes, from its two own facts: it stops at row n, and where it stops it keeps the best
 owed : (s : Poses) → Valid s → (q : Query) (k : ℕ) (r : Search) → stops s k r (s .n) ≡ true
@@ -138,7 +138,7 @@ module _ (s : Poses) (v : Valid s) (q : Query) where
 none-made : (p m : ℕ) → p * (m * 0) ≡ 0
 none-made p m = ap (_*_ p) (mul-zero m) ∙ mul-zero p
 
-pub promised : (s : Poses) → Valid s → (q : Query) (k : ℕ) → 1 ≤ k → k ≤ s .n → Promise s q k
+pub promised : Claim
 promised s v q k some few =
     let items-met : ℕ → ℕ = λ r. passing (met s (rounds s r)) (s .n) in
     let looked : (r : ℕ) → Looked s direct (rounds s r) (items-met r) = λ r. rounds-turns s v r .looked in
