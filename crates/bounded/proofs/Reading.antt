@@ -103,6 +103,10 @@ module _ (m n rule : ℕ) (weights items scores work : List ℕ) (w : Readable (
             record {
               items-long = lists .items-long;
               item-small = λ i hi. rw (at i p least) (lists .is-item i (p - 1) hi (omega arith));
+              item-placed = λ i hi.
+                  let is-item = lists .is-item i (p - 1) hi (omega arith) in
+                  rw (at i p least)
+                  (omega (arith, w .work-placed .position-at i (item s i (p - 1)) hi is-item, lists .place-of-item i (p - 1) hi (omega arith)));
               item-there = λ i d hi hd e.
                   let there : place s i d ≡ p - 1 = omega (arith, e, w .work-placed .position-at i d hi hd) in
                   rw (at i p least) (rw there at (lists .item-of-place i d hi hd));

@@ -4,15 +4,15 @@ mod shortlist;
 mod tally;
 
 use ending::stopping_row;
-use halting::seen;
 use meeting::bound;
 use shortlist::keep;
 use tally::fill_tally;
 ghost use mathlib.Core.Path.{_≡_};
-ghost use Prim.Native.Nat.{_≤_, _<_};
+ghost use Prim.Native.Nat.{_-_, _<_};
 ghost use Rattle.lists.specs.Contracts.{poses};
 ghost use Rattle.meeting.specs.Contracts.{queryWith, Readable, Room};
-ghost use Rattle.halting.specs.Contracts.{view, Legible};
+ghost use Rattle.halting.specs.Contracts.{view, Legible, Marked};
+ghost use Rattle.ending.specs.Contracts.{Kth};
 ghost use Rattle.bounded.specs.Contracts.{Spaced, Keeps, Listed, Considered, Finished};
 
 fn narrow(x: usize) -> u16
@@ -22,11 +22,13 @@ fn narrow(x: usize) -> u16
     x as u16
 }
 
-// Item d, where it is met, into the first k after p rows, and how many there are then.
+// Item d, where it is met and its mark is no smaller than `top`, into the first k after p rows, and how many there
+// are then. Its mark is its low and one more, so only its high is left to find.
 fn consider(
     d: usize,
     p: usize,
     k: usize,
+    top: u32,
     filled: usize,
     m: usize,
     n: usize,
@@ -34,36 +36,43 @@ fn consider(
     weights: [u32; 8],
     scores: &[u16],
     work: &[u16],
+    marks: &[u32],
     picks: &mut [u16],
     lows: &mut [u32],
     highs: &mut [u32],
 ) -> usize
-    requires { ⌜ Legible (view m n rule weights (now scores) (now work)) p × (d < n) × Keeps k filled (now picks) (now lows) (now highs) ⌝ }
-    ensures { λ r. ⌜ Considered (view m n rule weights (now (scores .entry)) (now (work .entry))) k p d filled (now (picks .entry)) (now (lows .entry)) (now (highs .entry)) r (now (picks .exit)) (now (lows .exit)) (now (highs .exit)) ⌝ }
+    requires { ⌜ Legible (view m n rule weights (now scores) (now work)) p × Marked (view m n rule weights (now scores) (now work)) p (now marks) × (d < n) × Keeps k filled (now picks) (now lows) (now highs) ⌝ }
+    ensures { λ r. ⌜ Considered (view m n rule weights (now (scores .entry)) (now (work .entry))) k p (top - 1) d filled (now (picks .entry)) (now (lows .entry)) (now (highs .entry)) r (now (picks .exit)) (now (lows .exit)) (now (highs .exit)) ⌝ }
 {
-    if seen(d, p, m, n, work) {
-        let low = bound(false, d, p, m, n, rule, weights, scores, work);
-        let high = bound(true, d, p, m, n, rule, weights, scores, work);
-        return keep(narrow(d), low, high, k, filled, picks, lows, highs);
+    let own = marks[d];
+    if own < top {
+        return filled;
     }
-    filled
+    if own == 0 {
+        return filled;
+    }
+    let high = bound(true, d, p, m, n, rule, weights, scores, work);
+    keep(narrow(d), own - 1, high, k, filled, picks, lows, highs)
 }
 
-// The first k of all items met after p rows, and how many there are.
+// The first k of all items met after p rows, and how many there are. `top` is the k-th mark: k items have one that
+// is no smaller, so an item with a smaller one is not among the first k.
 fn rank(
     p: usize,
     k: usize,
+    top: u32,
     m: usize,
     n: usize,
     rule: u8,
     weights: [u32; 8],
     scores: &[u16],
     work: &[u16],
+    marks: &[u32],
     picks: &mut [u16],
     lows: &mut [u32],
     highs: &mut [u32],
 ) -> usize
-    requires { ⌜ Legible (view m n rule weights (now scores) (now work)) p × Spaced k (now picks) (now lows) (now highs) ⌝ }
+    requires { ⌜ Legible (view m n rule weights (now scores) (now work)) p × Marked (view m n rule weights (now scores) (now work)) p (now marks) × Kth n k (now marks) top × Spaced k (now picks) (now lows) (now highs) ⌝ }
     ensures { λ r. ⌜ Listed (view m n rule weights (now (scores .entry)) (now (work .entry))) k p n (now (picks .entry)) (now (lows .entry)) (now (highs .entry)) r (now (picks .exit)) (now (lows .exit)) (now (highs .exit)) ⌝ }
 {
     let mut filled = 0;
@@ -73,6 +82,7 @@ fn rank(
             d,
             p,
             k,
+            top,
             filled,
             m,
             n,
@@ -80,6 +90,7 @@ fn rank(
             weights,
             scores,
             work,
+            marks,
             picks,
             lows,
             highs,
@@ -108,16 +119,32 @@ pub fn run_nra(
     requires { ⌜ Readable (poses m n (now items) (now scores)) (queryWith rule weights) (now work) × Room (poses m n (now items) (now scores)) k (now picks) (now lows) (now highs) (now tally) ⌝ }
     ensures { λ r. ⌜ Finished (poses m n (now (items .entry)) (now (scores .entry))) (queryWith rule weights) k r (now (picks .entry)) (now (lows .entry)) (now (highs .entry)) (now (tally .entry)) (now (picks .exit)) (now (lows .exit)) (now (highs .exit)) (now (tally .exit)) ⌝ }
 {
-    let row = stopping_row(k, m, n, rule, weights, items, scores, work);
+    let mut marks: [u32; 1024] = [0; 1024];
+    let mut tops: [u32; 1024] = [0; 1024];
+    let row = stopping_row(
+        k,
+        m,
+        n,
+        rule,
+        weights,
+        items,
+        scores,
+        work,
+        &mut marks,
+        &mut tops,
+    );
+    let top = tops[k - 1];
     rank(
         row,
         k,
+        top,
         m,
         n,
         rule,
         weights,
         scores,
         work,
+        &marks,
         picks,
         lows,
         highs,

@@ -1,5 +1,5 @@
 -- The records that the contracts of `ending` cite.
---     Kth            the k-th greatest mark, as a bar
+--     Kth, kth-of    the k-th greatest mark, as a bar; it is the last of the k greatest
 --     Obstructed     an item that keeps NRA from stopping, or n
 --     Sought         what the search for the row asks
 --     Halted         the row after which NRA stops
@@ -8,13 +8,18 @@ use mathlib.Core.Path.{_≡_}
 use mathlib.Core.Bool.{true, false}
 use mathlib.Core.List.{List}
 use Prim.Native.Nat.{ℕ, _-_, _≤_, _<_}
+use lib.ListN.{getD}
 use Rattle.halting.specs.Contracts.{View, Legible, haltsOf, reachOf, Barred}
-use Rattle.leading.specs.Contracts.{Rowed}
+use Rattle.leading.specs.Contracts.{Led, Rowed}
+use Rattle.leading.specs.Floor.{led-bar, led-few}
 
 -- `top` is the k-th greatest mark: where it is 0, fewer than k items are met, and else it is the k-th low and one more
 pub record Kth (n k : ℕ) (marks : List ℕ) (top : ℕ) : Type 0 where
   pub few : top ≡ 0 → reachOf n marks 0 < k
   pub barred : 1 ≤ top → Barred n k marks (top - 1)
+
+pub kth-of : {n k : ℕ} {marks tops : List ℕ} → Led n k marks tops → 1 ≤ k → Kth n k marks (getD tops (k - 1) 0)
+kth-of led some = record { few = led-few led some; barred = led-bar led some }
 
 -- NRA stops after p rows exactly where r is n
 pub record Obstructed (v : View) (k p r : ℕ) : Type 0 where

@@ -4,9 +4,9 @@
 use halting::blocker;
 use halting::few_above;
 use leading::read_row;
-ghost use mathlib.Core.Path.{_≡_};
 ghost use Prim.Native.Nat.{_≤_, _<_};
 ghost use Rattle.halting.specs.Contracts.{view, Legible, Marked};
+ghost use Rattle.leading.specs.Contracts.{Leading};
 ghost use Rattle.ending.specs.Contracts.{Kth, Obstructed, Sought, Halted};
 
 // An item that keeps NRA from stopping after p rows, or n where it stops; `top` is the k-th mark. The item
@@ -45,7 +45,8 @@ fn obstacle(
     at
 }
 
-// The row after which NRA stops: the first of 1 to n - 1 whose test holds, else n.
+// The row after which NRA stops: the first of 1 to n whose test holds, else n. The marks and the k greatest of
+// them, which are those before any row, become those after it.
 pub fn stopping_row(
     k: usize,
     m: usize,
@@ -55,34 +56,22 @@ pub fn stopping_row(
     items: &[u16],
     scores: &[u16],
     work: &[u16],
+    marks: &mut [u32],
+    tops: &mut [u32],
 ) -> usize
-    requires { ⌜ Sought (view m n rule weights (now scores) (now work)) (now items) k ⌝ }
-    ensures { λ r. ⌜ Halted (view m n rule weights (now (scores .entry)) (now (work .entry))) k r ⌝ }
+    requires { ⌜ Sought (view m n rule weights (now scores) (now work)) (now items) k × Leading (view m n rule weights (now scores) (now work)) 0 k (now marks) (now tops) ⌝ }
+    ensures { λ r. ⌜ Halted (view m n rule weights (now (scores .entry)) (now (work .entry))) k r × Leading (view m n rule weights (now (scores .entry)) (now (work .entry))) r k (now (marks .exit)) (now (tops .exit)) ⌝ }
 {
-    let mut marks: [u32; 1024] = [0; 1024];
-    let mut tops: [u32; 1024] = [0; 1024];
     let mut at = 0;
-    let mut p = 1;
+    let mut p = 0;
     while p < n {
-        read_row(
-            p,
-            k,
-            m,
-            n,
-            rule,
-            weights,
-            items,
-            scores,
-            work,
-            &mut marks,
-            &mut tops,
-        );
+        p += 1;
+        read_row(p, k, m, n, rule, weights, items, scores, work, marks, tops);
         let top = tops[k - 1];
-        at = obstacle(at, p, k, top, m, n, rule, weights, scores, work, &marks);
+        at = obstacle(at, p, k, top, m, n, rule, weights, scores, work, marks);
         if at == n {
             return p;
         }
-        p += 1;
     }
     p
 }

@@ -1,6 +1,7 @@
 -- Items' marks, the k-th low, and NRA's test by it.
 --     read-most, bound-most  how large a local score and a bound are
 --     low-below-high         a low is at most the high
+--     mark-above             a mark is above a bar: the item is met and its low reaches the bar
 --     reach-is               how many marks are above a bar: how many met items' lows reach it
 --     blocks-not             an item stands in the way exactly where it fails its part of the test
 --     halts-few              fewer than k marks: the test fails
@@ -71,7 +72,7 @@ module _ {v : View} {p : ℕ} (w : Legible v p) where
       (λ i _. mul-le-mul-right (getD (v .weights) i 0) (read-rises (v .n) (v .scores) (v .work) d p i))
 
   -- a mark is above a bar exactly where the item is met and its low reaches the bar
-  mark-above : (bar d : ℕ) → ltb bar (markOf v p d) ≡ (metOf v p d && leb bar (boundOf v false p d))
+  pub mark-above : (bar d : ℕ) → ltb bar (markOf v p d) ≡ (metOf v p d && leb bar (boundOf v false p d))
   unfolding markOf
   mark-above bar d =
       by-cases (metOf v p d)
@@ -82,7 +83,7 @@ module _ {v : View} {p : ℕ} (w : Legible v p) where
       (λ (z : metOf v p d ≡ false). rw (z, le-ltb bar 0 (omega arith)))
 
   module _ {marks : List ℕ} (noted : Marked v p marks) where
-    reach-is : (bar : ℕ) → reachOf (v .n) marks bar ≡ passing (λ d. metOf v p d && leb bar (boundOf v false p d)) (v .n)
+    pub reach-is : (bar : ℕ) → reachOf (v .n) marks bar ≡ passing (λ d. metOf v p d && leb bar (boundOf v false p d)) (v .n)
     unfolding reachOf
     reach-is bar =
         passing-same (λ d. ltb bar (getD marks d 0)) (λ d. metOf v p d && leb bar (boundOf v false p d)) (v .n)

@@ -1,53 +1,12 @@
 // What NRA's test after p rows asks of each item, with no order made: the test holds exactly where the k-th low
 // parts the first k items from all others.
-use lists::wide;
 use meeting::bound;
 ghost use mathlib.Core.Path.{_≡_};
 ghost use mathlib.Core.Bool.{_&&_};
-ghost use Prim.Native.Nat.{_+_, _*_, _≤_, _<_};
+ghost use Prim.Native.Nat.{_+_, _≤_, _<_};
 ghost use lib.Dec.{leb, ltb};
-ghost use lib.ListN.{length, getD};
-ghost use Rattle.model.specs.Words.{someBelow};
 ghost use Rattle.laws.specs.Lookups.{once};
-ghost use Rattle.halting.specs.Contracts.{view, markOf, aboveOf, Legible, Marked, Blocking};
-
-// Item d is met after p rows: in one list its position is at most p.
-pub fn seen(d: usize, p: usize, m: usize, n: usize, work: &[u16]) -> bool
-    requires { ⌜ (m ≤ 8) × (n ≤ 1024) × (d < n) × (m * n ≤ length (now work)) ⌝ }
-    ensures { λ r. ⌜ r ≡ someBelow (λ i. leb (getD (now (work .entry)) (i * n + d) 0) p) m ⌝ }
-{
-    let mut i = 0;
-    while i < m {
-        let base = i * n;
-        let at = base + d;
-        if wide(work[at]) <= p {
-            return true;
-        }
-        i += 1;
-    }
-    false
-}
-
-// Item d's low after p rows and one more, or 0 where it is not met.
-pub fn mark(
-    d: usize,
-    p: usize,
-    m: usize,
-    n: usize,
-    rule: u8,
-    weights: [u32; 8],
-    scores: &[u16],
-    work: &[u16],
-) -> u32
-    requires { ⌜ Legible (view m n rule weights (now scores) (now work)) p × (d < n) ⌝ }
-    ensures { λ r. ⌜ r ≡ markOf (view m n rule weights (now (scores .entry)) (now (work .entry))) p d ⌝ }
-{
-    if seen(d, p, m, n, work) {
-        let low = bound(false, d, p, m, n, rule, weights, scores, work);
-        return low + 1;
-    }
-    0
-}
+ghost use Rattle.halting.specs.Contracts.{view, aboveOf, Legible, Marked, Blocking};
 
 // 1 where x is above the bar.
 fn above(bar: u32, x: u32) -> usize

@@ -6,23 +6,25 @@
 --     kept-others, kept-each         each passing item left out stands after the last kept; each kept is the last or before it
 --     kept-low, left-low             no kept item has a smaller low than the last kept, and none left out a greater one
 --     kth-passes, kth-counts         a test that goes on to whatever stands before: k entries pass just when the k-th does
+--     ranked-parted, kept-front      a test whose items stand before all others: these come first; where k items pass it, no other is kept
 -- Assumes nothing.
 use mathlib.Core.Path.{_≡_, refl, sym, ap, _∙_}
-use mathlib.Core.Bool.{Bool, true, false, cond, true≢false}
+use mathlib.Core.Bool.{Bool, true, false, cond, not, _&&_, or-true, Bool·not-not, true≢false}
 use mathlib.Core.Logic.{_⊎_, inl, inr, ⊎-elim}
-use mathlib.Core.List.{List, [], _∷_}
+use mathlib.Core.List.{List, [], _∷_, _++_}
 use Prim.Native.Nat.{ℕ, zero, suc, _+_, _-_, _≤_, _<_}
 use native.Mathlib.Nat.{not-suc-le-zero, le-of-suc-le-suc}
 use native.Mathlib.Omega.{arith}
-use lib.Dec.{ltb}
+use lib.Dec.{eqb, ltb}
 use lib.ListN.{length, getD, take, length-take}
-use lib.Seq.{getD-take}
-use borrow.Author.Tests.{ltb-true, ltb-false, lt-ltb}
+use lib.Seq.{getD-take, take-append-le}
+use borrow.Author.Tests.{eq-eqb, ltb-true, ltb-false, lt-ltb}
 use Rattle.model.specs.Words.{count, lastOf}
-use Rattle.model.specs.Searches.{ahead, ranked, among}
+use Rattle.model.specs.Searches.{ahead, insert, ranked, among}
 use Rattle.laws.specs.Tests.{by-cases, and-yes}
-use Rattle.laws.specs.Ahead.{Ordering, ahead-ordering, ahead-low}
-use Rattle.laws.specs.Ranking.{Sorted, among-at, among-found, sorted-tail, ranked-among, ranked-sorted}
+use Rattle.laws.specs.Passing.{passing}
+use Rattle.laws.specs.Ahead.{Ordering, not-both, ahead-ordering, ahead-low}
+use Rattle.laws.specs.Ranking.{Sorted, among-at, among-found, sorted-tail, ranked-among, ranked-length, ranked-sorted}
 
 -- ---- the first k
 -- the last of the first k entries
@@ -139,6 +141,61 @@ module _ (before : ℕ → ℕ → Bool) (o : Ordering before) (t : ℕ → Bool
   pub kept-each : (d : ℕ) → among d (take k (ranked before t n)) ≡ true
       → (d ≡ lastOf 0 (take k (ranked before t n))) ⊎ (before d (lastOf 0 (take k (ranked before t n))) ≡ true)
   kept-each d y = kept-before before (ranked before t n) (ranked-sorted before o t n) k some enough d y
+
+-- ---- a test whose items stand before all others
+module _ (before : ℕ → ℕ → Bool) (o : Ordering before) (t : ℕ → Bool)
+    (in-front : (d e : ℕ) → t d ≡ true → t e ≡ false → before d e ≡ true) where
+  -- an item that passes goes among those that pass
+  insert-front : (d : ℕ) (l r : List ℕ) → t d ≡ true → ((e : ℕ) → among e r ≡ true → t e ≡ false)
+      → insert before d (l ++ r) ≡ insert before d l ++ r
+  unfolding insert among
+  insert-front d [] [] y fail = refl
+  insert-front d [] (e ∷ r) y fail =
+      let first : before d e ≡ true = in-front d e y (fail e (rw (eq-eqb e e refl))) in
+      rw first
+  insert-front d (e ∷ l) r y fail =
+      by-cases (before d e)
+      (λ (a : before d e ≡ true). rw a)
+      (λ (a : before d e ≡ false). rw (a, insert-front d l r y fail))
+
+  -- any other goes behind them
+  insert-behind : (d : ℕ) (l r : List ℕ) → t d ≡ false → ((e : ℕ) → among e l ≡ true → t e ≡ true)
+      → insert before d (l ++ r) ≡ l ++ insert before d r
+  unfolding insert among
+  insert-behind d [] r z pass = refl
+  insert-behind d (e ∷ l) r z pass =
+      let later : before d e ≡ false = not-both o e d (in-front e d (pass e (rw (eq-eqb e e refl))) z) in
+      rw (later, insert-behind d l r z (λ x y. pass x (rw y (or-true (eqb x e)))))
+
+  module _ (u : ℕ → Bool) where
+    ranked-test : (w : ℕ → Bool) (n e : ℕ) → among e (ranked before (λ d. u d && w d) n) ≡ true → w e ≡ true
+    ranked-test w n e y =
+        let inside = and-yes (ltb e n) (u e && w e) (sym (ranked-among before (λ d. u d && w d) e n) ∙ y) in
+        and-yes (u e) (w e) (inside .1) .1
+
+    pub ranked-parted : (n : ℕ)
+        → ranked before u n ≡ ranked before (λ d. u d && t d) n ++ ranked before (λ d. u d && not (t d)) n
+    unfolding ranked
+    ranked-parted zero = refl
+    ranked-parted (suc n) =
+        let front = ranked before (λ d. u d && t d) n in
+        let rest = ranked before (λ d. u d && not (t d)) n in
+        by-cases (u n)
+        (λ (y : u n ≡ true).
+        by-cases (t n)
+        (λ (a : t n ≡ true).
+        rw (y, a, ranked-parted n)
+        (insert-front n front rest a (λ e b. sym (Bool·not-not (t e)) ∙ ap not (ranked-test (λ d. not (t d)) n e b))))
+        (λ (a : t n ≡ false). rw (y, a, ranked-parted n) (insert-behind n front rest a (ranked-test t n))))
+        (λ (z : u n ≡ false). rw (z, ranked-parted n))
+
+    -- k items pass it: the first k are the first k of these
+    pub kept-front : (n k : ℕ) → k ≤ passing (λ d. u d && t d) n
+        → take k (ranked before u n) ≡ take k (ranked before (λ d. u d && t d) n)
+    kept-front n k enough =
+        let front = ranked before (λ d. u d && t d) n in
+        ap (take k) (ranked-parted n)
+        ∙ take-append-le k front (ranked before (λ d. u d && not (t d)) n) (omega (arith, ranked-length before (λ d. u d && t d) n))
 
 -- ---- in the order of the shortlist
 module _ (low high : ℕ → ℕ) (t : ℕ → Bool) (n k : ℕ)

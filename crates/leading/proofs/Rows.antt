@@ -1,6 +1,7 @@
 -- Marks from row to row, and within a row from list to list.
 --     mark-rises             no mark falls from row to row
 --     mark-stays             an item that stands at row p of no list has the same mark after p rows as after p - 1
+--     row-met                the item at row p of a list is met then
 --     row-mark-most          within row p no mark is above that after the row
 --     begun-start, begun-next, begun-whole       the marks before the first list, with one list more, after all of them
 -- Assumes nothing.
@@ -81,6 +82,14 @@ module _ (v : View) (p d : ℕ) where
         rw (some-same (λ i. leb (place i) (p - 1)) (λ i. leb (place i) p) (v .m) place-stays, bound-stays)
 
 -- ---- within a row
+-- the item at row p of a list is met after p rows, and after any more
+pub row-met : {v : View} {items : List ℕ} {p : ℕ} → Rowed v items p → (i q : ℕ) → i < v .m → p ≤ q
+    → metOf v q (itemAt v items p i) ≡ true
+unfolding metOf
+row-met {v} {items} {p} rowed i q hi later =
+    some-hit (λ j. leb (getD (v .work) (j * v .n + itemAt v items p i) 0) q) (v .m) i hi
+    (le-leb (getD (v .work) (i * v .n + itemAt v items p i) 0) q (omega (arith, rowed .item-placed i hi)))
+
 pub row-mark-most : (v : View) (items : List ℕ) (p i d : ℕ) → rowMark v items p i d ≤ markOf v p d
 unfolding rowMark
 row-mark-most v items p i d =

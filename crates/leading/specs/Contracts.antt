@@ -31,10 +31,11 @@ pub record Leading (v : View) (p k : ℕ) (marks tops : List ℕ) : Type 0 where
 abbrev pub itemAt : View → List ℕ → ℕ → ℕ → ℕ
 itemAt v items p i = getD items (i * v .n + p - 1) 0
 
--- At row p of each list stands an item, and it is the one whose position the work slice says is p
+-- At row p of each list stands an item, the one whose position the work slice says is p
 pub record Rowed (v : View) (items : List ℕ) (p : ℕ) : Type 0 where
   pub items-long : v .m * v .n ≤ length items
   pub item-small : (i : ℕ) → i < v .m → itemAt v items p i < v .n
+  pub item-placed : (i : ℕ) → i < v .m → getD (v .work) (i * v .n + itemAt v items p i) 0 ≡ p
   pub item-there : (i d : ℕ) → i < v .m → d < v .n → getD (v .work) (i * v .n + d) 0 ≡ p → itemAt v items p i ≡ d
 
 -- What reading row p asks, apart from the marks

@@ -1,11 +1,13 @@
 // The k greatest of the items' marks, kept as rows are read and marks rise: the least of them tells the
 // k-th low, and no item but those of the row is looked at for it.
-use halting::mark;
 use lists::wide;
+use meeting::bound;
 use meeting::sliding::slide_scores;
+ghost use mathlib.Core.Bool.{true};
+ghost use mathlib.Core.Path.{_≡_};
 ghost use Prim.Native.Nat.{_+_, _-_, _≤_, _<_};
 ghost use lib.ListN.{length, getD};
-ghost use Rattle.halting.specs.Contracts.{view};
+ghost use Rattle.halting.specs.Contracts.{view, metOf, markOf, Legible};
 ghost use Rattle.leading.specs.Contracts.{Led, Leading, Reading, Seat, Raised, Begun};
 
 // Behind how many of the first `end` entries x stands: the walk is from the last of them to the front, up
@@ -39,6 +41,24 @@ fn raise(k: usize, old: u32, new: u32, tops: &mut [u32])
     let last = behind - 1;
     let at = seat(new, last, tops);
     slide_scores(tops, at, last, new);
+}
+
+// The mark of item d, which is met after p rows: its low and one more.
+fn mark(
+    d: usize,
+    p: usize,
+    m: usize,
+    n: usize,
+    rule: u8,
+    weights: [u32; 8],
+    scores: &[u16],
+    work: &[u16],
+) -> u32
+    requires { ⌜ Legible (view m n rule weights (now scores) (now work)) p × (d < n) × (metOf (view m n rule weights (now scores) (now work)) p d ≡ true) ⌝ }
+    ensures { λ r. ⌜ r ≡ markOf (view m n rule weights (now (scores .entry)) (now (work .entry))) p d ⌝ }
+{
+    let low = bound(false, d, p, m, n, rule, weights, scores, work);
+    low + 1
 }
 
 // The item that stands at row p of list i: its mark and the k greatest.

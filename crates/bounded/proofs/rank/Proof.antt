@@ -1,41 +1,43 @@
--- `bounded::rank` meets its contract. The loop's invariant: the three slices hold the first k of the items passed (`Listed`), and
--- have their lengths; the measure is how many items are left.
+-- `bounded::rank` meets its contract. The loop's invariant: the three slices hold the first k of the items passed that reach the
+-- bar (`Passed`), and have their lengths; the measure is how many items are left. At the loop's end these are the first k of all met
+-- items (`listed-all`).
 -- Assumes nothing.
 use mathlib.Core.Path.{_≡_, refl, _∙_}
 use Prim.Native.Nat.{_-_, _≤_}
 use native.Mathlib.Omega.{arith}
 use lib.ListN.{length}
 use Rattle.halting.specs.Contracts.{view}
-use Rattle.bounded.specs.Contracts.{Listed}
-use Rattle.bounded.proofs.Items.{listed-none, listed-most}
+use Rattle.bounded.specs.Contracts.{Passed}
+use Rattle.bounded.proofs.Items.{passed-none, passed-most, listed-all}
 use Rattle.bounded.proofs.rank.Statement.{statement}
 use Rattle.bounded.proofs.rank.Tie as tie
 
 abbrev Inv-loop : tie.InvT-loop
-Inv-loop p k m n rule weights scores work picks₀ lows₀ highs₀ filled₀ d₀ picks lows highs filled d =
+Inv-loop p k top m n rule weights scores work marks picks₀ lows₀ highs₀ filled₀ d₀ picks lows highs filled d =
     (d ≤ n) × (length picks ≡ length picks₀) × (length lows ≡ length lows₀) × (length highs ≡ length highs₀)
-    × Listed (view m n rule weights scores work) k p d picks₀ lows₀ highs₀ filled picks lows highs
+    × Passed (view m n rule weights scores work) k p (top - 1) d picks₀ lows₀ highs₀ filled picks lows highs
 
 abbrev μ-loop : tie.MeasureT-loop
-μ-loop p k m n rule weights scores work picks₀ lows₀ highs₀ filled₀ d₀ picks lows highs filled d = n - d
+μ-loop p k top m n rule weights scores work marks picks₀ lows₀ highs₀ filled₀ d₀ picks lows highs filled d = n - d
 
 loop-holds : tie.Need-loop-holds Inv-loop μ-loop
 loop-holds c =
-    let at-start = c .before .before .before .before .before in
+    let at-start = c .before .before .before .before .before .before in
     let a = at-start .args in
     let v = view (a .m) (a .n) (a .rule) (a .weights) (a .scores .now) (a .work .now) in
-    (omega arith, refl, refl, refl, listed-none v (a .k) (a .p) (a .picks .now) (a .lows .now) (a .highs .now))
+    (omega arith, refl, refl, refl, passed-none v (a .k) (a .p) (a .top - 1) (a .picks .now) (a .lows .now) (a .highs .now))
 
 consider-requires : tie.Need-consider-requires Inv-loop μ-loop
 consider-requires c κs =
-    let at-start = c .before .before .before .before .before .before .before .before .before .before in
+    let at-start = c .before .before .before .before .before .before .before .before .before .before .before in
     let at-loop = c .before .before .before .before in
     let in-turn = c .before .before .before in
     let a = at-start .args in
     let v = view (a .m) (a .n) (a .rule) (a .weights) (a .scores .now) (a .work .now) in
     let inv = at-loop .loop .inv in
-    let room = at-start .pre .1 in (
+    let room = at-start .pre .3 in (
       at-start .pre .0,
+      at-start .pre .1,
       in-turn .loop-test .taken,
       record {
         room = record {
@@ -44,14 +46,14 @@ consider-requires c κs =
           lows-long = omega (arith, inv .2, room .lows-long);
           highs-long = omega (arith, inv .3, room .highs-long);
         };
-        filled-most = listed-most v (a .k) (a .p) (inv .4);
+        filled-most = passed-most v (a .k) (a .p) (a .top - 1) (inv .4);
       },
     )
 
 add-d : tie.Need-add-d Inv-loop μ-loop
 add-d c =
     let in-turn = c .before .before .before .before .before .before .before .before .before .before in
-    let at-start = c .before .before .before .before .before .before .before .before .before .before .before .before .before .before .before .before .before in
+    let at-start = c .before .before .before .before .before .before .before .before .before .before .before .before .before .before .before .before .before .before in
     omega (arith, in-turn .loop-test .taken, at-start .pre .0 .n-most)
 
 loop-less : tie.Need-loop-less Inv-loop μ-loop
@@ -61,7 +63,7 @@ loop-less c =
 
 loop-again : tie.Need-loop-again Inv-loop μ-loop
 loop-again c =
-    let at-start = c .before .before .before .before .before .before .before .before .before .before .before .before .before .before .before .before .before in
+    let at-start = c .before .before .before .before .before .before .before .before .before .before .before .before .before .before .before .before .before .before in
     let at-loop = c .before .before .before .before .before .before .before .before .before .before .before in
     let after-consider = c .before .before .before .before .before .before in
     let in-turn = c .before .before .before .before .before .before .before .before .before .before in
@@ -69,9 +71,9 @@ loop-again c =
     let inv = at-loop .loop .inv in
     let kept = after-consider .consider .kept in (
       omega (arith, in-turn .loop-test .taken),
-      kept .1 .1 .1 .1 .1 .1 .1 .1 .1 .1 .0 ∙ inv .1,
-      kept .1 .1 .1 .1 .1 .1 .1 .1 .1 .1 .1 .0 ∙ inv .2,
-      kept .1 .1 .1 .1 .1 .1 .1 .1 .1 .1 .1 .1 .0 ∙ inv .3,
+      kept .1 .1 .1 .1 .1 .1 .1 .1 .1 .1 .1 .1 .0 ∙ inv .1,
+      kept .1 .1 .1 .1 .1 .1 .1 .1 .1 .1 .1 .1 .1 .0 ∙ inv .2,
+      kept .1 .1 .1 .1 .1 .1 .1 .1 .1 .1 .1 .1 .1 .1 .0 ∙ inv .3,
       after-consider .consider .ensures .considers (a .picks .now) (a .lows .now) (a .highs .now) (inv .4),
     )
 
@@ -93,10 +95,10 @@ same-length-3 c =
 returns : tie.Need-returns Inv-loop μ-loop
 returns c =
     let at-loop = c .before in
-    let at-start = c .before .before .before .before .before .before .before in
-    let at-loop = at-loop in
+    let at-start = c .before .before .before .before .before .before .before .before in
+    let asked = at-start .pre in
     let whole : at-loop .loop .d ≡ at-start .args .n = omega (arith, at-loop .loop .inv .0, c .loop-test .left) in
-    rw whole at (at-loop .loop .inv .4)
+    listed-all (asked .0) (asked .1) (asked .2) (rw whole at (at-loop .loop .inv .4))
 
 pub rank-spec : {M : Type 1} → statement M
 rank-spec =

@@ -3,39 +3,65 @@
 -- Assumes nothing.
 use borrow.Author.Needs.{needs}
 use native.Mathlib.Omega.{arith}
+use Rattle.leading.specs.Floor.{led-start, marked-start}
+use Rattle.ending.specs.Contracts.{kth-of}
 use Rattle.bounded.proofs.Reading.{legible, sought, finishes}
 use Rattle.bounded.proofs.run_nra.Statement.{statement}
 use Rattle.bounded.proofs.run_nra.Tie as tie
 
+slice-aggregate-stopping-row : tie.Need-slice-aggregate-stopping-row
+slice-aggregate-stopping-row c = search needs
+
+slice-aggregate-stopping-row-2 : tie.Need-slice-aggregate-stopping-row-2
+slice-aggregate-stopping-row-2 c = search needs
+
 stopping-row-requires : tie.Need-stopping-row-requires
 stopping-row-requires c κs =
-    let at-start = c .before .before .before .before .before .before .before in
+    let at-start = c .before .before .before .before .before .before .before .before .before in
     let a = at-start .args in
+    let room = at-start .pre .1 in
+    let asked =
     sought (a .m) (a .n) (a .rule) (a .weights) (a .items .now) (a .scores .now) (a .work .now) (at-start .pre .0) (a .k)
-    (at-start .pre .1 .k-least) (at-start .pre .1 .k-most)
+    (room .k-least) (room .k-most) in (
+      asked,
+      record { marked = marked-start (asked .legible); led = led-start (a .n) (a .k) (asked .legible .n-most) (room .k-most) },
+    )
+
+sub-top : tie.Need-sub-top
+sub-top c = search needs
+
+mul-top : tie.Need-mul-top
+mul-top c = search needs
+
+array-read-top : tie.Need-array-read-top
+array-read-top c = search needs
+
+slice-aggregate-rank : tie.Need-slice-aggregate-rank
+slice-aggregate-rank c = search needs
 
 rank-requires : tie.Need-rank-requires
 rank-requires c κs =
-    let at-start = c .before .before .before .before .before .before .before .before .before .before .before in
-    let after-stopping-row = c .before .before .before in
+    let at-start = c .before .before .before .before .before .before .before .before .before .before .before .before .before .before .before .before in
+    let after-stopping-row = c .before .before .before .before .before .before in
     let a = at-start .args in
     let room = at-start .pre .1 in
-    let found = after-stopping-row .stopping-row .ensures in (
-      legible (a .m) (a .n) (a .rule) (a .weights) (a .items .now) (a .scores .now) (a .work .now) (at-start .pre .0) _ (omega (arith, found .row-least, found .row-most)) (omega (arith, found .row-least, found .row-most)),
+    let found = after-stopping-row .stopping-row .ensures .0 in
+    let leads = after-stopping-row .stopping-row .ensures .1 in (
+      legible (a .m) (a .n) (a .rule) (a .weights) (a .items .now) (a .scores .now) (a .work .now) (at-start .pre .0) _
+          (omega (arith, found .row-least, found .row-most)) (omega (arith, found .row-least, found .row-most)),
+      leads .marked,
+      kth-of (leads .led) (room .k-least),
       record { k-least = room .k-least; picks-long = room .picks-long; lows-long = room .lows-long; highs-long = room .highs-long },
     )
 
 fill-tally-requires : tie.Need-fill-tally-requires
 fill-tally-requires c κs =
-    let at-start = c .before .before .before .before .before .before .before .before .before .before .before .before .before .before .before .before .before .before .before in
+    let at-start = c .before .before .before .before .before .before .before .before .before .before .before .before .before .before .before .before .before .before .before .before .before .before .before .before in
     let sizes = at-start .pre .0 .lists-valid .size in
     (sizes .m-most, sizes .n-most, at-start .pre .1 .tally-long)
 
 cast-result : tie.Need-cast-result
-cast-result c =
-    let after-stopping-row = c .before .before .before .before .before .before .before .before .before .before .before .before .before .before in
-    let at-start = c .before .before .before .before .before .before .before .before .before .before .before .before .before .before .before .before .before .before .before .before .before .before in
-    omega (arith, after-stopping-row .stopping-row .ensures .row-most, at-start .pre .0 .lists-valid .size .n-most)
+cast-result c = search needs
 
 same-length : tie.Need-same-length
 same-length c = search needs
@@ -51,19 +77,25 @@ same-length-4 c = search needs
 
 returns : tie.Need-returns
 returns c =
-    let at-start = c .before .before .before .before .before .before .before .before .before .before .before .before .before .before .before .before .before .before .before .before .before .before in
-    let after-stopping-row = c .before .before .before .before .before .before .before .before .before .before .before .before .before .before in
+    let at-start = c .before .before .before .before .before .before .before .before .before .before .before .before .before .before .before .before .before .before .before .before .before .before .before .before .before .before .before in
+    let after-stopping-row = c .before .before .before .before .before .before .before .before .before .before .before .before .before .before .before .before .before in
     let after-rank = c .before .before .before .before .before .before .before .before .before .before in
     let after-fill-tally = c .before .before in
     let a = at-start .args in
     finishes (a .m) (a .n) (a .rule) (a .weights) (a .items .now) (a .scores .now) (a .work .now) (at-start .pre .0) (at-start .pre .1)
-    (after-stopping-row .stopping-row .ensures) (after-rank .rank .ensures) (after-fill-tally .fill-tally .ensures)
+    (after-stopping-row .stopping-row .ensures .0) (after-rank .rank .ensures) (after-fill-tally .fill-tally .ensures)
 
 pub run-nra-spec : {M : Type 1} → statement M
 run-nra-spec =
     tie.close
     (tie.spec
+    slice-aggregate-stopping-row
+    slice-aggregate-stopping-row-2
     stopping-row-requires
+    sub-top
+    mul-top
+    array-read-top
+    slice-aggregate-rank
     rank-requires
     fill-tally-requires
     cast-result

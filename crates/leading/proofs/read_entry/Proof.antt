@@ -9,7 +9,7 @@ use Rattle.laws.specs.Lists.{table-room}
 use Rattle.halting.specs.Contracts.{view, markOf, at-row}
 use Rattle.leading.specs.Contracts.{Begun}
 use Rattle.leading.proofs.Raising.{mark-most-top}
-use Rattle.leading.proofs.Rows.{row-mark-most, begun-next}
+use Rattle.leading.proofs.Rows.{row-met, row-mark-most, begun-next}
 use Rattle.leading.proofs.read_entry.Statement.{statement}
 use Rattle.leading.proofs.read_entry.Tie as tie
 
@@ -52,8 +52,11 @@ read-small c =
 mark-requires : tie.Need-mark-requires
 mark-requires c κs =
     let at-start = c .before .before .before .before .before .before .before in
-    let read = at-start .pre .0 .legible in
-    (at-row read _ (omega (arith, read .row-least, read .row-most)) (omega (arith, read .row-most)), read-small c)
+    let read = at-start .pre .0 .legible in (
+      at-row read _ (omega (arith, read .row-least, read .row-most)) (omega (arith, read .row-most)),
+      read-small c,
+      rw (c .wide .ensures) (row-met (at-start .pre .0 .rowed) _ _ (omega (arith, at-start .pre .1)) (omega (arith, read .row-most))),
+    )
 
 mul-old : tie.Need-mul-old
 mul-old c =
