@@ -43,7 +43,8 @@ module _ (m n rule k : ℕ) (weights items scores : List ℕ) (picks lows highs 
       → Admitted m n rule k weights items scores picks lows highs tally work r after
   unfolding searchVerdict workAfter posesOf
   admitted-checked none lists =
-      let all : shape ≡ accepted = told-zero shape (numbered-shape m n rule k weights (length items) (length scores) picks lows highs tally (length work)) none in
+      let all : shape ≡ accepted =
+      told-zero shape (numbered-shape m n rule k weights (length items) (length scores) picks lows highs tally (length work)) none in
       let passed = shape-told m n rule k weights (length items) (length scores) picks lows highs tally (length work) all in
       let both = checked-lists (check-shape m n rule k weights items scores work picks lows highs tally passed) lists in
       record {

@@ -55,13 +55,15 @@ shapeOf m n rule k weights items scores picks lows highs tally work =
 
 -- they are the tests of the page
 pub shape-is : (l : Lent)
-    → searchShape l ≡ shapeOf (l .m) (l .n) (l .rule) (l .k) (l .weights) (length (l .items)) (length (l .scores)) (length (l .picks)) (length (l .lows)) (length (l .highs)) (length (l .tally)) (length (l .work))
+    → searchShape l ≡ shapeOf (l .m) (l .n) (l .rule) (l .k) (l .weights) (length (l .items)) (length (l .scores)) (length (l .picks))
+    (length (l .lows)) (length (l .highs)) (length (l .tally)) (length (l .work))
 unfolding searchShape shapeOf noLists noRoom short posesOf
 shape-is l = refl
 
 -- Whatever slices of these lengths are lent: the answer to all tests, and the work slice afterwards; and where all are passed,
 -- the lists are valid and the work slice holds the positions
-pub record Admitted (m n rule k : ℕ) (weights items scores : List ℕ) (picks lows highs tally : ℕ) (work : List ℕ) (r : Checked) (after : List ℕ) : Type 0 where
+pub record Admitted (m n rule k : ℕ) (weights items scores : List ℕ) (picks lows highs tally : ℕ) (work : List ℕ) (r : Checked) (after : List ℕ) :
+    Type 0 where
   pub answers : (a b c t : List ℕ) → length a ≡ picks → length b ≡ lows → length c ≡ highs → length t ≡ tally
       → valueOf r ≡ told (searchVerdict (lentWith m n rule k weights items scores a b c t work))
   pub leaves : (a b c t : List ℕ) → length a ≡ picks → length b ≡ lows → length c ≡ highs → length t ≡ tally

@@ -126,7 +126,8 @@ module _ (m n rule k : ℕ) (weights : List ℕ) (items scores picks lows highs 
       let from3 = then-second two (three then four then five then six) from2 in
       let from4 = then-second three (four then five then six) from3 in
       let from5 = then-second four (five then six) from4 in
-      let lists = or-no (ltb items (m * n)) (ltb scores (m * n)) (when-passes 5 (ltb items (m * n) || ltb scores (m * n)) (then-first five six from5)) in
+      let lists =
+      or-no (ltb items (m * n)) (ltb scores (m * n)) (when-passes 5 (ltb items (m * n) || ltb scores (m * n)) (then-first five six from5)) in
       let room = when-passes 6 (noRoomOf k (m * n) picks lows highs tally work) (then-second five six from5) in
       let r5 = or-no (ltb picks k || ltb lows k || ltb highs k || ltb tally (m * n)) (ltb work (m * n)) room in
       let r4 = or-no (ltb picks k || ltb lows k || ltb highs k) (ltb tally (m * n)) (r5 .0) in
@@ -168,7 +169,8 @@ pub numbered-search : (l : Lent) → Numbered (searchVerdict l)
 unfolding searchVerdict
 numbered-search l =
     numbered-then (searchShape l) (inLists (posesOf l))
-    (rw (shape-is l) (numbered-shape (l .m) (l .n) (l .rule) (l .k) (l .weights) (length (l .items)) (length (l .scores)) (length (l .picks)) (length (l .lows)) (length (l .highs)) (length (l .tally)) (length (l .work))))
+    (rw (shape-is l) (numbered-shape (l .m) (l .n) (l .rule) (l .k) (l .weights) (length (l .items)) (length (l .scores)) (length (l .picks))
+    (length (l .lows)) (length (l .highs)) (length (l .tally)) (length (l .work))))
     (numbered-lists (posesOf l))
 
 -- the list check lets pass what passed a search's tests
@@ -177,24 +179,35 @@ pub check-shape : (m n rule k : ℕ) (weights items scores work : List ℕ) (pic
     → checkShape (poses m n items scores) work ≡ accepted
 unfolding checkShape noLists short
 check-shape m n rule k weights items scores work picks lows highs tally h =
-    rw (h .sizes, le-ltb (length items) (m * n) (h .items-long), le-ltb (length scores) (m * n) (h .scores-long), le-ltb (length work) (m * n) (h .work-long))
+    rw (
+      h .sizes,
+      le-ltb (length items) (m * n) (h .items-long),
+      le-ltb (length scores) (m * n) (h .scores-long),
+      le-ltb (length work) (m * n)
+          (h .work-long),
+    )
 
 -- What an accepted call is
 pub record Accepts (l : Lent) : Type 0 where
   pub lists-valid : Valid (posesOf l)
   pub k-least : 1 ≤ l .k
   pub k-most : l .k ≤ l .n
-  pub shape : Shape (l .m) (l .n) (l .rule) (l .k) (l .weights) (length (l .items)) (length (l .scores)) (length (l .picks)) (length (l .lows)) (length (l .highs)) (length (l .tally)) (length (l .work))
+  pub shape : Shape (l .m) (l .n) (l .rule) (l .k) (l .weights) (length (l .items)) (length (l .scores)) (length (l .picks)) (length (l .lows))
+      (length (l .highs)) (length (l .tally)) (length (l .work))
 
 pub accepts : (l : Lent) → searchVerdict l ≡ accepted → Accepts l
 unfolding searchVerdict checkVerdict posesOf
 accepts l e =
     let told = then-first (searchShape l) (inLists (posesOf l)) e in
     let all = then-second (searchShape l) (inLists (posesOf l)) e in
-    let h = shape-told (l .m) (l .n) (l .rule) (l .k) (l .weights) (length (l .items)) (length (l .scores)) (length (l .picks)) (length (l .lows)) (length (l .highs)) (length (l .tally)) (length (l .work)) (sym (shape-is l) ∙ told) in
+    let h =
+    shape-told (l .m) (l .n) (l .rule) (l .k) (l .weights) (length (l .items)) (length (l .scores)) (length (l .picks)) (length (l .lows))
+    (length (l .highs)) (length (l .tally)) (length (l .work)) (sym (shape-is l) ∙ told) in
     let ks = k-passes (l .k) (l .n) (h .k-right) in
     record {
-      lists-valid = valid (posesOf l) (l .work) (rw (check-shape (l .m) (l .n) (l .rule) (l .k) (l .weights) (l .items) (l .scores) (l .work) (length (l .picks)) (length (l .lows)) (length (l .highs)) (length (l .tally)) h) all);
+      lists-valid = valid (posesOf l) (l .work) (rw
+          (check-shape (l .m) (l .n) (l .rule) (l .k) (l .weights) (l .items) (l .scores) (l .work) (length (l .picks)) (length (l .lows))
+          (length (l .highs)) (length (l .tally)) h) all);
       k-least = ks .0;
       k-most = ks .1;
       shape = h;

@@ -132,7 +132,8 @@ module _ (m n rule : ℕ) (weights items scores work : List ℕ) (w : Readable (
   pub high-is : (p d : ℕ) → 1 ≤ p → d < n → boundOf v true p d ≡ highNRA s q p d
   unfolding boundOf highNRA overall readAt unread score
   high-is p d least hd =
-      joined-same rule (λ i. readAt n scores work d p (unread true n scores p) i * getD weights i 0) (λ i. readOr s p d i (score s i (p - 1)) * getD weights i 0) m
+      joined-same rule (λ i. readAt n scores work d p (unread true n scores p) i * getD weights i 0)
+      (λ i. readOr s p d i (score s i (p - 1)) * getD weights i 0) m
       (λ i hi.
       let at : i * n + p - 1 ≡ i * n + (p - 1) = omega arith in
       ap (λ (x : ℕ). x * getD weights i 0)

@@ -27,7 +27,8 @@ pub record SameSearch (number number′ : ℕ) (told picks lows highs tally work
   pub tally-same : tally ≡ tally′
   pub work-same : work ≡ work′
 
-pub search-settles : {r : Poses → Query → Search} {l : Lent} {number number′ : ℕ} {told picks lows highs tally work told′ picks′ lows′ highs′ tally′ work′ : List ℕ}
+pub search-settles : {r : Poses → Query → Search} {l : Lent} {number number′ : ℕ}
+    {told picks lows highs tally work told′ picks′ lows′ highs′ tally′ work′ : List ℕ}
     → SearchTold r l number told picks lows highs tally work → SearchTold r l number′ told′ picks′ lows′ highs′ tally′ work′
     → SameSearch number number′ told picks lows highs tally work told′ picks′ lows′ highs′ tally′ work′
 search-settles x y =

@@ -78,8 +78,10 @@ module _ {v : View} {p : ℕ} (w : Legible v p) where
       by-cases (metOf v p d)
       (λ (y : metOf v p d ≡ true).
       by-cases (leb bar (boundOf v false p d))
-      (λ (a : leb bar (boundOf v false p d) ≡ true). rw (y, a, lt-ltb bar (boundOf v false p d + 1) (omega (arith, leb-true bar (boundOf v false p d) a))))
-      (λ (a : leb bar (boundOf v false p d) ≡ false). rw (y, a, le-ltb bar (boundOf v false p d + 1) (omega (arith, leb-false bar (boundOf v false p d) a)))))
+      (λ (a : leb bar (boundOf v false p d) ≡ true). rw
+      (y, a, lt-ltb bar (boundOf v false p d + 1) (omega (arith, leb-true bar (boundOf v false p d) a))))
+      (λ (a : leb bar (boundOf v false p d) ≡ false). rw
+      (y, a, le-ltb bar (boundOf v false p d + 1) (omega (arith, leb-false bar (boundOf v false p d) a)))))
       (λ (z : metOf v p d ≡ false). rw (z, le-ltb bar 0 (omega arith)))
 
   module _ {marks : List ℕ} (noted : Marked v p marks) where
@@ -130,4 +132,5 @@ module _ {v : View} {p : ℕ} (w : Legible v p) where
 
       pub halts-yes : ((d : ℕ) → d < v .n → passesOf v p bar d ≡ true) → haltsOf v k p ≡ leb (aboveOf v p bar) k
       unfolding partsOf parts passesOf aboveOf
-      halts-yes all = sym halts-barred ∙ rw (every-all (λ d. leb (boundOf v true p d) bar || (metOf v p d && leb bar (boundOf v false p d))) (v .n) all)
+      halts-yes all = sym halts-barred ∙ rw (every-all (λ d. leb (boundOf v true p d) bar || (metOf v p d && leb bar (boundOf v false p d))) (v .n)
+          all)

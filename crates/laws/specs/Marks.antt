@@ -78,7 +78,12 @@ noted-count f n (suc p) h =
     let unmarked : marked (getD (row (noted f p) n) (f p) 0) ≡ false = rw (row-at (noted f p) n (f p) 0 here, free) in
     let before : count marked (row (noted f p) n) ≡ p =
     noted-count f n p (record { small = λ q l. h .small q (omega arith); new = λ q l. h .new q (omega arith) }) in
-    rw (← (noted-store f n p here), count-set marked (row (noted f p) n) (f p) (p + 1) 0 (rw row-length here) unmarked (rw (ne-eqb (p + 1) 0 (λ e. omega arith))), before)
+    rw (
+      ← (noted-store f n p here),
+      count-set marked (row (noted f p) n) (f p) (p + 1) 0 (rw row-length here) unmarked
+          (rw (ne-eqb (p + 1) 0 (λ e. omega arith))),
+      before,
+    )
     (add-one p)
 
 -- n distinct items below n: each item below n is noted

@@ -81,7 +81,13 @@ module _ (s : Poses) (v : Valid s) where
   pub met-more : {tr : List Access} → Whole s tr → (k : Kind) (i p e : ℕ) → i < s .m → p < s .n → e < s .n
       → met s (tr ++ lookup s k i p) e ≡ (met s tr e || eqb e (item s i p))
   met-more {tr} w k i p e hi hp he =
-      rw (met-is w e he, met-is (whole-more w k i p hi hp) e he, times-append tr (lookup s k i p) 0 (place s 0 e), lookup-at k i p 0 e hi hp list-one he)
+      rw (
+        met-is w e he,
+        met-is (whole-more w k i p hi hp) e he,
+        times-append tr (lookup s k i p) 0 (place s 0 e),
+        lookup-at k i p 0 e hi hp list-one
+            he,
+      )
       (one-more (times tr 0 (place s 0 e)) (item s i p) e)
     where
       one-more : (x a b : ℕ) → leb 1 (x + once (eqb a b)) ≡ (leb 1 x || eqb b a)

@@ -35,12 +35,17 @@ module _ {M : Type 1} (𝓤 : URA M) (H : Heap 𝓤) (A : Atoms 𝓤) (W : Given
   unfolding partOf
   array-lends mk ℓ v is =
       qed W (‵ (fat fullShare τ l 0 v) ∷ []) ∵ updating ! $ owned ! R (Is R) (array-makes 𝓤 H A W S mk n) xs (v ∷ []) is $ move ! (1 ∷ []) $
-      use1 W (‵ (cellAt fullShare (R .mir) (v ∷ []) l 0)) (W .laws .at-raw fullShare τ l 0 v) $ fjoin ! $ fpack ! (List Val) (λ us. fsep (cellAt fullShare (R .mir) us l 0) (R .own xs us)) (v ∷ []) $
-      use1 W (later (some (λ (γ : GName). raw (LentShr 𝓤 H A W R ℓ κ fullShare xs l 0 γ)))) (lends-shr 𝓤 H A W R ℓ κ fullShare xs l 0) $ await ! tt $ pick ! (λ γ. at-once ! $ show ! (LentShr 𝓤 H A W R ℓ κ fullShare xs l 0) γ $ done !)
+      use1 W (‵ (cellAt fullShare (R .mir) (v ∷ []) l 0)) (W .laws .at-raw fullShare τ l 0 v) $ fjoin ! $
+      fpack ! (List Val) (λ us. fsep (cellAt fullShare (R .mir) us l 0) (R .own xs us)) (v ∷ []) $
+      use1 W (later (some (λ (γ : GName). raw (LentShr 𝓤 H A W R ℓ κ fullShare xs l 0 γ)))) (lends-shr 𝓤 H A W R ℓ κ fullShare xs l 0) $ await ! tt $
+      pick ! (λ γ. at-once ! $ show ! (LentShr 𝓤 H A W R ℓ κ fullShare xs l 0) γ $ done !)
 
-  pub array-back : (vals : S .Denot → List Val) → Tells S (Is S) vals → ent 𝓤 (sep 𝓤 (A .dead κ) (A .lent κ (partAt R fullShare xs l 0))) (H .⇛ (sem 𝓤 H A (froom τ l 0)))
+  pub array-back : (vals : S .Denot → List Val) → Tells S (Is S) vals
+      → ent 𝓤 (sep 𝓤 (A .dead κ) (A .lent κ (partAt R fullShare xs l 0))) (H .⇛ (sem 𝓤 H A (froom τ l 0)))
   unfolding partOf
   array-back vals tl =
-      qed W (‵ (fdead κ) ∷ ‵ (flent κ (partAt R fullShare xs l 0)) ∷ []) ∵ updating ! $ lent-back ! tt $ fpick ! (λ vs. fsplit ! $ move ! (1 ∷ []) $ facts ! R (Is R) (shows 𝓤 H A R) xs vs (λ is.
+      qed W (‵ (fdead κ) ∷ ‵ (flent κ (partAt R fullShare xs l 0)) ∷ []) ∵ updating ! $ lent-back ! tt $
+      fpick ! (λ vs. fsplit ! $ move ! (1 ∷ []) $ facts ! R (Is R) (shows 𝓤 H A R) xs vs (λ is.
       rewrite ! 0 (λ (us : List Val). ‵ (cellAt fullShare (R .mir) us l 0)) (array-tells S vals tl n xs vs is) refl $
-      use1 W (‵ (fat fullShare τ l 0 (only (array-vals vals xs)))) (W .laws .raw-at fullShare τ l 0 (only (array-vals vals xs))) $ forget ! 0 refl $ at-once ! $ done !))
+      use1 W (‵ (fat fullShare τ l 0 (only (array-vals vals xs)))) (W .laws .raw-at fullShare τ l 0 (only (array-vals vals xs))) $ forget ! 0 refl $
+      at-once ! $ done !))

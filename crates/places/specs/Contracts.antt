@@ -39,7 +39,8 @@ rowOf x = record { item = x .item; low = x .low; high = x .high }
 -- everything that a search is lent, where the shortlist is lent as rows: three slices with as many places
 abbrev pub lentRows : ℕ → ℕ → ℕ → ℕ → List ℕ → List ℕ → List ℕ → List Place → List ℕ → List ℕ → Lent
 lentRows m n rule k weights items scores rows tally work =
-    lentWith m n rule k weights items scores (map (λ (x : Place). x .item) rows) (map (λ (x : Place). x .low) rows) (map (λ (x : Place). x .high) rows) tally work
+    lentWith m n rule k weights items scores (map (λ (x : Place). x .item) rows) (map (λ (x : Place). x .low) rows)
+    (map (λ (x : Place). x .high) rows) tally work
 
 -- The search r over what is lent, refused or not: the answer's seven numbers, the tally and the work slice are the model's, and
 -- the rows are its shortlist written over the rows as lent
@@ -61,4 +62,5 @@ pub record Columned (which m n rule k room : ℕ) (weights items scores tally₀
   pub count-most : f .count ≤ 1024
   pub count-room : f .count ≤ room
   pub owed : (lent : List Place) → length lent ≡ room
-      → SearchedRows (searchAt which) (lentRows m n rule k weights items scores lent tally₀ work₀) (f .answer) lent (onto (row (placeAt (f .picks) (f .lows) (f .highs)) (f .count)) lent) tally work
+      → SearchedRows (searchAt which) (lentRows m n rule k weights items scores lent tally₀ work₀) (f .answer) lent
+      (onto (row (placeAt (f .picks) (f .lows) (f .highs)) (f .count)) lent) tally work

@@ -27,7 +27,8 @@ pub record SameRows (a b : Answer) (rows : List Place) (tally work : List ℕ) (
   pub tally-same : tally ≡ tally′
   pub work-same : work ≡ work′
 
-pub rows-settle : {r : Poses → Query → Search} {l : Lent} {lent : List Place} {a b : Answer} {rows : List Place} {tally work : List ℕ} {rows′ : List Place} {tally′ work′ : List ℕ}
+pub rows-settle : {r : Poses → Query → Search} {l : Lent} {lent : List Place} {a b : Answer} {rows : List Place} {tally work : List ℕ}
+    {rows′ : List Place} {tally′ work′ : List ℕ}
     → SearchedRows r l a lent rows tally work → SearchedRows r l b lent rows′ tally′ work′ → SameRows a b rows tally work rows′ tally′ work′
 rows-settle {a = a} {b = b} x y =
     record {
@@ -41,7 +42,8 @@ rows-settle {a = a} {b = b} x y =
     }
 
 -- a refused search leaves the rows as lent
-pub rows-refused : {r : Poses → Query → Search} {l : Lent} {lent : List Place} {a : Answer} {rows : List Place} {tally work : List ℕ} → SearchedRows r l a lent rows tally work
+pub rows-refused : {r : Poses → Query → Search} {l : Lent} {lent : List Place} {a : Answer} {rows : List Place} {tally work : List ℕ}
+    → SearchedRows r l a lent rows tally work
     → (number i p : ℕ) → searchVerdict l ≡ refused number i p → rows ≡ lent
 unfolding answer answering onto
 rows-refused {r} {l} {lent} x number i p e = x .rows-hold ∙ rw e
@@ -58,7 +60,8 @@ unfolding onto over
 column f new lent = map-append f new (drop (length new) lent) ∙ rw (drop-map f (length new) lent, length-map new f)
 
 -- a slice of the shortlist, refused or not: one number of each of its places, written over the slice as lent
-written-places : (v : Verdict) (f : Found) (g : model.Place → ℕ) (lent : List ℕ) → written v (map g (f .shortlist)) lent ≡ over (map g (answering v f .shortlist)) lent
+written-places : (v : Verdict) (f : Found) (g : model.Place → ℕ) (lent : List ℕ)
+    → written v (map g (f .shortlist)) lent ≡ over (map g (answering v f .shortlist)) lent
 unfolding written answering over
 written-places accepted f g lent = refl
 written-places (refused x i p) f g lent = refl
@@ -72,16 +75,20 @@ pub record SameContent (a b : Answer) (picks lows highs tally work : List ℕ) (
   pub tally-same : tally ≡ tally′
   pub work-same : work ≡ work′
 
-pub same-content : {r : Poses → Query → Search} {m n rule k : ℕ} {weights items scores tally₀ work₀ : List ℕ} {lent : List Place} {a b : Answer} {picks lows highs tally work : List ℕ} {rows : List Place} {tally′ work′ : List ℕ}
+pub same-content : {r : Poses → Query → Search} {m n rule k : ℕ} {weights items scores tally₀ work₀ : List ℕ} {lent : List Place} {a b : Answer}
+    {picks lows highs tally work : List ℕ} {rows : List Place} {tally′ work′ : List ℕ}
     → Searched r (lentRows m n rule k weights items scores lent tally₀ work₀) a picks lows highs tally work
-    → SearchedRows r (lentRows m n rule k weights items scores lent tally₀ work₀) b lent rows tally′ work′ → SameContent a b picks lows highs tally work rows tally′ work′
+    → SearchedRows r (lentRows m n rule k weights items scores lent tally₀ work₀) b lent rows tally′ work′
+    → SameContent a b picks lows highs tally work rows tally′ work′
 unfolding slices slicesWith answer
 same-content {r} {m} {n} {rule} {k} {weights} {items} {scores} {tally₀} {work₀} {lent} {a} {b} x y =
     let l = lentRows m n rule k weights items scores lent tally₀ work₀ in
     let f = found (posesOf l) k (searchOf r l) in
     let best = answer r l .shortlist in
-    let one : (g : Place → ℕ) → map g (onto (map rowOf best) lent) ≡ written (searchVerdict l) (map (λ (p : model.Place). g (rowOf p)) (f .shortlist)) (map g lent) = λ g.
-    column g (map rowOf best) lent ∙ ap (λ (s : List ℕ). over s (map g lent)) (map-map g rowOf best) ∙ sym (written-places (searchVerdict l) f (λ p. g (rowOf p)) (map g lent)) in
+    let one : (g : Place → ℕ) → map g (onto (map rowOf best) lent) ≡ written (searchVerdict l) (map (λ (p : model.Place). g (rowOf p)) (f .shortlist))
+    (map g lent) = λ g.
+    column g (map rowOf best) lent ∙ ap (λ (s : List ℕ). over s (map g lent)) (map-map g rowOf best)
+    ∙ sym (written-places (searchVerdict l) f (λ p. g (rowOf p)) (map g lent)) in
     record {
       answers =
           answer-one-to-one a b (x .number-is ∙ sym (y .number-is)) (x .list-is ∙ sym (y .list-is)) (x .position-is ∙ sym (y .position-is))

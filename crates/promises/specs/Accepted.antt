@@ -39,7 +39,8 @@ module _ (s : Poses) (v : Valid s) where
       (λ q h.
       by-cases (eqb (item s i q) (item s i p))
       (λ (y : eqb (item s i q) (item s i p) ≡ true).
-      let same : q ≡ p = sym (v .place-of-item i q hi (omega arith)) ∙ ap (place s i) (eqb-true (item s i q) (item s i p) y) ∙ v .place-of-item i p hi hp in
+      let same : q ≡ p =
+      sym (v .place-of-item i q hi (omega arith)) ∙ ap (place s i) (eqb-true (item s i q) (item s i p) y) ∙ v .place-of-item i p hi hp in
       absurd (omega arith))
       (λ (z : eqb (item s i q) (item s i p) ≡ false). z))
 
@@ -58,7 +59,11 @@ module _ (s : Poses) (v : Valid s) where
 right-accepted : (l : Lent) → Accepts l → searchVerdict l ≡ accepted
 unfolding searchVerdict
 right-accepted l h =
-    rw (shape-is l, shape-passes (l .m) (l .n) (l .rule) (l .k) (l .weights) (length (l .items)) (length (l .scores)) (length (l .picks)) (length (l .lows)) (length (l .highs)) (length (l .tally)) (length (l .work)) (h .shape))
+    rw (
+      shape-is l,
+      shape-passes (l .m) (l .n) (l .rule) (l .k) (l .weights) (length (l .items)) (length (l .scores)) (length (l .picks))
+          (length (l .lows)) (length (l .highs)) (length (l .tally)) (length (l .work)) (h .shape),
+    )
     (valid-lists (posesOf l) (h .lists-valid))
 
 pub accepted-exactly : {r : Poses → Query → Search} {l : Lent} {a : Answer} {picks lows highs tally work : List ℕ}

@@ -37,7 +37,8 @@ module _ {r : Poses → Query → Search} {s : Poses} {q : Query} {k : ℕ} {a :
   gives : Gives s k (r s q) a picks lows highs marks
   gives =
       let l = c .lent in
-      let own : Gives (posesOf l) (l .k) (r (posesOf l) (queryOf l)) a picks lows highs marks = record { lent = l; finds = accepted-finds (c .searched) (c .accepted) } in
+      let own : Gives (posesOf l) (l .k) (r (posesOf l) (queryOf l)) a picks lows highs marks =
+      record { lent = l; finds = accepted-finds (c .searched) (c .accepted) } in
       let with-k = subst (λ (x : ℕ). Gives (posesOf l) x (r (posesOf l) (queryOf l)) a picks lows highs marks) (c .same-k) own in
       let with-query = subst (λ (x : Query). Gives (posesOf l) k (r (posesOf l) x) a picks lows highs marks) (c .same-query) with-k in
       subst (λ (x : Poses). Gives x k (r x q) a picks lows highs marks) (c .same-poses) with-query
@@ -69,7 +70,8 @@ returns s q k r a picks lows highs marks owed below above g =
     let best = kept s k r p in
     let tr = r .accesses p in
     let size : length best ≡ k = owed .size in
-    let pick : (j : ℕ) → j < k → getD picks j 0 ≡ getD best j 0 = λ j h. rw (f .slices-are .shortlist .picks-are) (over-at best (g .lent .picks) j 0 (omega arith)) in
+    let pick : (j : ℕ) → j < k → getD picks j 0 ≡ getD best j 0 =
+    λ j h. rw (f .slices-are .shortlist .picks-are) (over-at best (g .lent .picks) j 0 (omega arith)) in
     let low : (j : ℕ) → j < k → getD lows j 0 ≡ r .low p (getD picks j 0) = λ j h.
     rw (pick j h, f .slices-are .shortlist .lows-are)
     (over-at (map (r .low p) best) (g .lent .lows) j 0 (omega (arith, length-map best (r .low p))) ∙ map-at (r .low p) best j (omega arith)) in
@@ -98,8 +100,10 @@ returns s q k r a picks lows highs marks owed below above g =
       not-sooner = λ x least h. owed .not-sooner x least (rw (← f .rows-are) h);
       adds-up =
           rw (f .sorted-are, f .direct-are, f .random-are, f .slices-are .tally-is)
-          (owed .tallied p (owed .row-most) .adds-up ∙ ap sum (sym (rw (← marked) (take-append-seam (tally s tr) (drop (length (tally s tr)) (g .lent .tally))))));
-      tally-most = λ x h. rw (f .slices-are .tally-is, over-at (tally s tr) (g .lent .tally) x 0 (omega (arith, marked))) (owed .tallied p (owed .row-most) .at-most-m x);
+          (owed .tallied p (owed .row-most) .adds-up ∙ ap sum
+          (sym (rw (← marked) (take-append-seam (tally s tr) (drop (length (tally s tr)) (g .lent .tally))))));
+      tally-most = λ x h. rw (f .slices-are .tally-is, over-at (tally s tr) (g .lent .tally) x 0 (omega (arith, marked)))
+          (owed .tallied p (owed .row-most) .at-most-m x);
     }
 
 pub returned-ta : {s : Poses} {q : Query} {k : ℕ} {a : Answer} {picks lows highs marks : List ℕ}
@@ -145,7 +149,13 @@ delivered {s} {q} {k} {ta} {bpa} {bpa2} {nra} {t₂ = t₂} c₀ c₁ c₂ c₃ 
       bpa2-rows = rw (f₁ .rows-are, f₂ .rows-are) (all .bpa2-rows);
       bpa2-once = λ x h.
           let at = place-of (s .n) (s .m) x h in
-          rw (f₂ .slices-are .tally-is, over-at (tally s made₂) (gives c₂ .lent .tally) x 0 (omega (arith, marked)), at .4, table-at (times made₂) (s .n) (s .m) (at .0) (at .1) 0 (at .2) (at .3))
+          rw (
+            f₂ .slices-are .tally-is,
+            over-at (tally s made₂) (gives c₂ .lent .tally) x 0 (omega (arith, marked)),
+            at .4,
+            table-at (times made₂)
+                (s .n) (s .m) (at .0) (at .1) 0 (at .2) (at .3),
+          )
           (all .bpa2-once (rows s k (BPA2 s q)) (at .0) (at .1) (at .2) (at .3));
       bpa2-met = rw (f₂ .direct-are, f₂ .rows-are) (all .bpa2-direct (rows s k (BPA2 s q)));
       bpa2-all = rw (f₂ .sorted-are, f₂ .direct-are, f₂ .random-are, f₂ .rows-are) (made-length made₂ ∙ all .bpa2-length (rows s k (BPA2 s q)));

@@ -105,7 +105,8 @@ module _ (b items scores : List ℕ) where
         scores-filled : filledFrom (8 + 2 * m + 2) scores ≡ filledFrom (10 + 2 * m) scores
         scores-filled = let at : 8 + 2 * m + 2 ≡ 10 + 2 * m = omega arith in ap (λ (from : ℕ). filledFrom from scores) at
 
-        pub lists-taken : {x : ℕ} {i s : List ℕ} → x ≡ 0 → i ≡ filledFrom (8 + 2 * m) items → s ≡ filledFrom (8 + 2 * m + 2) scores → ListsAreRead b items scores (record { number = x; m = m; n = n }) i s
+        pub lists-taken : {x : ℕ} {i s : List ℕ} → x ≡ 0 → i ≡ filledFrom (8 + 2 * m) items → s ≡ filledFrom (8 + 2 * m + 2) scores
+            → ListsAreRead b items scores (record { number = x; m = m; n = n }) i s
         unfolding readLists listsAnswer itemsAfter scoresAfter written entryItem entryScore
         lists-taken none i-is s-is =
             record {

@@ -34,6 +34,7 @@ pub record OnlySorted (m p : ℕ) (d : Done) : Type 0 where
   pub random-are : d .random .0 ≡ 0
 
 -- The run of the search of a number: what it has done, and over what was lent the shortlist and the tally
-pub record Runs (which : ℕ) (s : Poses) (q : Query) (k : ℕ) (picks₀ lows₀ highs₀ tally₀ : List ℕ) (d : Done) (picks lows highs tally : List ℕ) : Type 0 where
+pub record Runs (which : ℕ) (s : Poses) (q : Query) (k : ℕ) (picks₀ lows₀ highs₀ tally₀ : List ℕ) (d : Done) (picks lows highs tally : List ℕ) : Type
+    0 where
   pub did : Did s k (searchAt which s q) d
   pub ran : Ran s k (searchAt which s q) (d .rows) picks₀ lows₀ highs₀ tally₀ picks lows highs tally

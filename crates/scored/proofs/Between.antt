@@ -58,7 +58,8 @@ state-self {s} {q} {k} {filled} {tr} {picks₀} {lows₀} {tally₀} at =
     }
 
 -- Between two rows or rounds
-pub record Between (which : ℕ) (s : Poses) (q : Query) (k : ℕ) (picks₀ lows₀ tally₀ : List ℕ) (filled : ℕ) (picks lows marks reach : List ℕ) (found p : ℕ) : Type 0 where
+pub record Between (which : ℕ) (s : Poses) (q : Query) (k : ℕ) (picks₀ lows₀ tally₀ : List ℕ) (filled : ℕ) (picks lows marks reach : List ℕ)
+    (found p : ℕ) : Type 0 where
   pub not-last : p < s .n
   pub state : State s q k (stepsBy which s p) picks₀ lows₀ tally₀ filled picks lows marks
   pub reached : Reached s (stepsBy which s p) reach
@@ -80,7 +81,8 @@ between-starts which s q k picks lows marks marks₀ reach v e long none =
     }
 
 -- One row or round later, before its test is made: where the slices stand, and the threshold's positions
-pub record After (which : ℕ) (s : Poses) (q : Query) (k : ℕ) (picks₀ lows₀ tally₀ : List ℕ) (filled : ℕ) (picks lows marks reach : List ℕ) (found p : ℕ) : Type 0 where
+pub record After (which : ℕ) (s : Poses) (q : Query) (k : ℕ) (picks₀ lows₀ tally₀ : List ℕ) (filled : ℕ) (picks lows marks reach : List ℕ)
+    (found p : ℕ) : Type 0 where
   pub row-least : 1 ≤ p
   pub row-most : p ≤ s .n
   pub state : State s q k (stepsBy which s p) picks₀ lows₀ tally₀ filled picks lows marks
@@ -96,7 +98,8 @@ module _ (m n rule : ℕ) (weights items scores work : List ℕ) (r : Readable (
   abbrev q : Query
   q = queryWith rule weights
 
-  module _ {filled : ℕ} {picks lows marks reach : List ℕ} {found p : ℕ} (b : Between which s q k picks₀ lows₀ tally₀ filled picks lows marks reach found p) where
+  module _ {filled : ℕ} {picks lows marks reach : List ℕ} {found p : ℕ}
+      (b : Between which s q k picks₀ lows₀ tally₀ filled picks lows marks reach found p) where
     pub standing-between : Standing s q k (stepsBy which s p) filled picks lows marks work
     standing-between =
         record {
@@ -127,13 +130,15 @@ module _ (m n rule : ℕ) (weights items scores work : List ℕ) (r : Readable (
             row-least = omega arith;
             row-most = omega (arith, b .not-last);
             state = state-then;
-            place = λ i hi. places .place i hi ∙ ap (λ (x : ℕ). cond (eqb which 0) (p + 1) x) (walked-best m n rule weights items scores work r state-then i hi);
+            place = λ i hi. places .place i hi ∙ ap (λ (x : ℕ). cond (eqb which 0) (p + 1) x)
+                (walked-best m n rule weights items scores work r state-then i hi);
             counted = omega (arith, b .counted, step .counted);
             few = omega (arith, b .few, step .few);
             not-yet = λ x h l. b .not-yet x h (omega arith);
           }
 
-  module _ {filled : ℕ} {picks lows marks reach : List ℕ} {found p : ℕ} (a : After which s q k picks₀ lows₀ tally₀ filled picks lows marks reach found p) where
+  module _ {filled : ℕ} {picks lows marks reach : List ℕ} {found p : ℕ}
+      (a : After which s q k picks₀ lows₀ tally₀ filled picks lows marks reach found p) where
     pub limited-after : Limited m n reach weights scores
     limited-after =
         let at = reached-at s (r .lists-valid) which p reach (a .row-least) (a .row-most) (a .place) in
@@ -150,7 +155,8 @@ module _ (m n rule : ℕ) (weights items scores work : List ℕ) (r : Readable (
 
     -- the test that the code makes is the search's own
     test-is : (leb k filled && leb (limitAt rule weights m n reach scores) (getD lows (k - 1) 0)) ≡ stops s k (searchBy which s q) p
-    test-is = stops-told which p (a .state) (limitAt rule weights m n reach scores) (keeps .k-least) (limit-is m n rule weights items scores which p reach (a .place))
+    test-is = stops-told which p (a .state) (limitAt rule weights m n reach scores) (keeps .k-least)
+        (limit-is m n rule weights items scores which p reach (a .place))
 
     pub after-goes-on : (eqb p n || (leb k filled && leb (limitAt rule weights m n reach scores) (getD lows (k - 1) 0))) ≡ false
         → Between which s q k picks₀ lows₀ tally₀ filled picks lows marks reach found p
@@ -177,9 +183,11 @@ module _ (m n rule : ℕ) (weights items scores work : List ℕ) (r : Readable (
         let row = counts .rows-are in
         let v = r .lists-valid in
         let three = counts-are s v which p found (a .row-most) (a .counted) in
-        let first-row : p ≡ rows s k (searchBy which s q) = row-is s k (searchBy which s q) p (a .row-least) (a .row-most) (a .not-yet) (rw test-is at ends) in
+        let first-row : p ≡ rows s k (searchBy which s q) =
+        row-is s k (searchBy which s q) p (a .row-least) (a .row-most) (a .not-yet) (rw test-is at ends) in
         let is-kept = kept-is which p (a .state) in
-        let zeros : length (table (times (stepsBy which s p)) n m) ≡ length (replicate {A = ℕ} (m * n) 0) = table-length (times (stepsBy which s p)) n m ∙ sym (length-replicate (m * n) 0) in
+        let zeros : length (table (times (stepsBy which s p)) n m) ≡ length (replicate {A = ℕ} (m * n) 0) =
+        table-length (times (stepsBy which s p)) n m ∙ sym (length-replicate (m * n) 0) in
         record {
           rows-are = row ∙ first-row;
           sorted-are = rw row (counts .sorted-are ∙ three .0);
@@ -187,5 +195,6 @@ module _ (m n rule : ℕ) (weights items scores work : List ℕ) (r : Readable (
           random-are = rw row (counts .random-are ∙ three .2);
           picks-are = rw (row, is-kept) (a .state .shortlist .picks-are);
           lows-are = rw (row, is-kept) (a .state .shortlist .lows-are);
-          tally-is = rw row (a .state .tally-is ∙ ap (over (table (times (stepsBy which s p)) n m)) cleared ∙ over-over (table (times (stepsBy which s p)) n m) (replicate (m * n) 0) marks₀ zeros);
+          tally-is = rw row (a .state .tally-is ∙ ap (over (table (times (stepsBy which s p)) n m)) cleared
+              ∙ over-over (table (times (stepsBy which s p)) n m) (replicate (m * n) 0) marks₀ zeros);
         }

@@ -61,7 +61,12 @@ pub row-reached : (s : Poses) (p : ℕ) (reach : List ℕ) → Reached s (rowsTA
 unfolding rowsTA
 row-reached s p reach reached i hi =
     rw (add-one p)
-    (omega (arith, reached i hi, best-wider s (rowsTA s p) (rowsTA s p ++ rowTA s p (s .m)) i (λ q hq y. visited-more (rowsTA s p) (rowTA s p (s .m)) i q y)))
+    (omega (
+      arith,
+      reached i hi,
+      best-wider s (rowsTA s p) (rowsTA s p ++ rowTA s p (s .m)) i
+          (λ q hq y. visited-more (rowsTA s p) (rowTA s p (s .m)) i q y),
+    ))
 
 module _ (s : Poses) (v : Valid s) where
   rows-sorted : (p : ℕ) → p ≤ s .n → made sorted (rowsTA s p) ≡ p * s .m
@@ -90,11 +95,13 @@ module _ (s : Poses) (v : Valid s) where
 
   -- the three counts, from the number of lookups
   pub counts-are : (which p found : ℕ) → p ≤ s .n → found ≡ made (kindBy which) (stepsBy which s p)
-      → (cond (eqb which 2) 0 found ≡ made sorted (stepsBy which s p)) × (cond (eqb which 2) found 0 ≡ made direct (stepsBy which s p)) × (found * (s .m - 1) ≡ made random (stepsBy which s p))
+      → (cond (eqb which 2) 0 found ≡ made sorted (stepsBy which s p)) × (cond (eqb which 2) found 0 ≡ made direct (stepsBy which s p))
+      × (found * (s .m - 1) ≡ made random (stepsBy which s p))
   counts-are which p found h e =
       let r = steps-looked which p h in
       let own = looked-own s v (kind-plain which) (r .1) in
-      let others : found * (s .m - 1) ≡ made random (stepsBy which s p) = ap (λ (c : ℕ). c * (s .m - 1)) (e ∙ own) ∙ sym (looked-random s v (kind-plain which) (r .1)) in
+      let others : found * (s .m - 1) ≡ made random (stepsBy which s p) =
+      ap (λ (c : ℕ). c * (s .m - 1)) (e ∙ own) ∙ sym (looked-random s v (kind-plain which) (r .1)) in
       by-cases (eqb which 2)
       (λ (y : eqb which 2 ≡ true).
       let k = kind-direct which (eqb-true which 2 y) in

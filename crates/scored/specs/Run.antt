@@ -57,11 +57,12 @@ pub record Stepping (which p : ℕ) (s : Poses) (q : Query) (k filled : ℕ) (re
   pub not-last : p < s .n
 
 -- One row or round more
-pub record Stepped (which p : ℕ) (s : Poses) (q : Query) (k filled : ℕ) (picks lows marks : List ℕ) (t : Turn) (picks′ lows′ marks′ : List ℕ) : Type 0 where
-  pub goes : Goes s q k (stepsBy which s p) (stepsBy which s (p + 1)) filled picks lows marks (t .filled) picks′ lows′ marks′
-  pub reached : Reached s (stepsBy which s (p + 1)) (t .best)
-  pub counted : made (kindBy which) (stepsBy which s (p + 1)) ≡ made (kindBy which) (stepsBy which s p) + t .found
-  pub few : t .found ≤ s .m
+pub record Stepped (which p : ℕ) (s : Poses) (q : Query) (k filled : ℕ) (picks lows marks : List ℕ) (t : Turn) (picks′ lows′ marks′ : List ℕ) : Type 0
+  where
+    pub goes : Goes s q k (stepsBy which s p) (stepsBy which s (p + 1)) filled picks lows marks (t .filled) picks′ lows′ marks′
+    pub reached : Reached s (stepsBy which s (p + 1)) (t .best)
+    pub counted : made (kindBy which) (stepsBy which s (p + 1)) ≡ made (kindBy which) (stepsBy which s p) + t .found
+    pub few : t .found ≤ s .m
 
 -- What the threshold's positions are
 pub record Placed (which p m n : ℕ) (marks reach : List ℕ) : Type 0 where

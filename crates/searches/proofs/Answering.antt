@@ -106,5 +106,7 @@ pub search-answer : (which : ℕ) (l : Lent) (c : Checked) (numbers : List ℕ) 
     → Runs which (posesOf l) (queryWith (l .rule) numbers) (l .k) (l .picks) (l .lows) (l .highs) (l .tally) d picks lows highs marks
     → Tells d a → work ≡ workAfter (searchShape l) (posesOf l) (l .work) → Searched (searchAt which) l a picks lows highs marks work
 search-answer which l c numbers d a picks lows highs marks work none says decoded runs t left =
-    let ran = subst (λ (q : Query). Runs which (posesOf l) q (l .k) (l .picks) (l .lows) (l .highs) (l .tally) d picks lows highs marks) (same-query l numbers decoded) runs in
+    let ran =
+    subst (λ (q : Query). Runs which (posesOf l) q (l .k) (l .picks) (l .lows) (l .highs) (l .tally) d picks lows highs marks)
+    (same-query l numbers decoded) runs in
     ran-answer (searchAt which) l c d a picks lows highs marks work none says (ran .did) (ran .ran) t left

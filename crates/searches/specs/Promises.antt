@@ -44,7 +44,8 @@ number-of (refused x i p) f = refl
 
 number-none : (r : Poses → Query → Search) (l : Lent) → answer r l .number ≡ 0 → searchVerdict l ≡ accepted
 unfolding answer
-number-none r l none = told-zero (searchVerdict l) (numbered-search l) (sym (number-of (searchVerdict l) (found (posesOf l) (l .k) (searchOf r l))) ∙ none)
+number-none r l none = told-zero (searchVerdict l) (numbered-search l)
+    (sym (number-of (searchVerdict l) (found (posesOf l) (l .k) (searchOf r l))) ∙ none)
 
 none-number : (r : Poses → Query → Search) (l : Lent) → searchVerdict l ≡ accepted → answer r l .number ≡ 0
 unfolding answer answering

@@ -47,7 +47,8 @@ module _ (s : Poses) (tr : List Access) (i : ℕ) where
   best-grows j = best-wider s tr (next s tr i) j (λ q hq y. visited-next s tr i j q y)
 
 -- After the turns at the first i lists of a round: where the slices stand, how far each list was visited, the direct accesses made
-pub record RoundPart (s : Poses) (q : Query) (k r i filled : ℕ) (picks₀ lows₀ marks₀ : List ℕ) (kept : ℕ) (picks lows marks reach : List ℕ) (found : ℕ) : Type 0 where
+pub record RoundPart (s : Poses) (q : Query) (k r i filled : ℕ) (picks₀ lows₀ marks₀ : List ℕ) (kept : ℕ) (picks lows marks reach : List ℕ)
+    (found : ℕ) : Type 0 where
   pub goes : Goes s q k (rounds s r) (round s (rounds s r) i) filled picks₀ lows₀ marks₀ kept picks lows marks
   pub reached : Reached s (round s (rounds s r) i) reach
   pub counted : made direct (round s (rounds s r) i) ≡ made direct (rounds s r) + found

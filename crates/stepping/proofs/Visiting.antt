@@ -77,7 +77,8 @@ module _ (d m n : ℕ) (work tally : List ℕ) where
       (over-set (table (counts i) n m) tally (i * n + p) (getD tally (i * n + p) 0 + 1) inside
       ∙ ap (λ (t : List ℕ). over t tally)
       (table-set (counts i) n m i p (getD tally (i * n + p) 0 + 1) hi hp
-      ∙ table-same (λ j q. cond (eqb i j && eqb p q) (getD tally (i * n + p) 0 + 1) (counts i j q)) (counts (i + 1)) n m (λ j q hj hq. counts-more i p j q place)))
+      ∙ table-same (λ j q. cond (eqb i j && eqb p q) (getD tally (i * n + p) 0 + 1) (counts i j q)) (counts (i + 1)) n m
+      (λ j q hj hq. counts-more i p j q place)))
 
 -- where a walk ends: at the first position that was not visited, or past the last
 pub walked-is : (i n b : ℕ) (tally : List ℕ) → b ≤ n → ((p : ℕ) → p < b → getD tally (i * n + p) 0 ≡ 0 → ⊥)

@@ -28,13 +28,15 @@ unfoldable pub ranking : Poses → Query → List Access → List ℕ
 ranking s q tr = ranked (ahead (total s q) (total s q)) (met s tr) (s .n)
 
 -- After the accesses tr, over what was lent: the first k items met with their scores, and the tally
-pub record State (s : Poses) (q : Query) (k : ℕ) (tr : List Access) (picks₀ lows₀ tally₀ : List ℕ) (filled : ℕ) (picks lows marks : List ℕ) : Type 0 where
-  pub shortlist : Listing (total s q) (take k (ranking s q tr)) picks₀ lows₀ filled picks lows
-  pub tally-is : marks ≡ over (tally s tr) tally₀
-  pub tally-as-long : length marks ≡ length tally₀
+pub record State (s : Poses) (q : Query) (k : ℕ) (tr : List Access) (picks₀ lows₀ tally₀ : List ℕ) (filled : ℕ) (picks lows marks : List ℕ) : Type 0
+  where
+    pub shortlist : Listing (total s q) (take k (ranking s q tr)) picks₀ lows₀ filled picks lows
+    pub tally-is : marks ≡ over (tally s tr) tally₀
+    pub tally-as-long : length marks ≡ length tally₀
 
 -- A step, whatever was lent: from the state after tr to the state after tr′
-pub record Goes (s : Poses) (q : Query) (k : ℕ) (tr tr′ : List Access) (filled : ℕ) (picks lows marks : List ℕ) (filled′ : ℕ) (picks′ lows′ marks′ : List ℕ) : Type 0 where
+pub record Goes (s : Poses) (q : Query) (k : ℕ) (tr tr′ : List Access) (filled : ℕ) (picks lows marks : List ℕ) (filled′ : ℕ)
+    (picks′ lows′ marks′ : List ℕ) : Type 0 where
   pub step : (picks₀ lows₀ tally₀ : List ℕ) → State s q k tr picks₀ lows₀ tally₀ filled picks lows marks
       → State s q k tr′ picks₀ lows₀ tally₀ filled′ picks′ lows′ marks′
 
@@ -51,7 +53,8 @@ pub record Met (d m n rule k filled : ℕ) (weights scores picks lows marks work
   pub looks-up : (items : List ℕ) (tr : List Access) (a : Kind) (i p : ℕ) → Valid (poses m n items scores)
       → Placed (poses m n items scores) work → Whole (poses m n items scores) tr → i < m → p < n
       → item (poses m n items scores) i p ≡ d
-      → Goes (poses m n items scores) (queryWith rule weights) k tr (tr ++ lookup (poses m n items scores) a i p) filled picks lows marks filled′ picks′ lows′ marks′
+      → Goes (poses m n items scores) (queryWith rule weights) k tr (tr ++ lookup (poses m n items scores) a i p) filled picks lows marks filled′
+      picks′ lows′ marks′
 
 -- Between two steps: all that may be read, the state after tr over the slices themselves, and room for more
 pub record Standing (s : Poses) (q : Query) (k : ℕ) (tr : List Access) (filled : ℕ) (picks lows marks work : List ℕ) : Type 0 where
@@ -68,7 +71,8 @@ pub record Looking (i b : ℕ) (s : Poses) (k filled : ℕ) (weights picks lows 
   pub meeting : b < s .n → Meeting (item s i b) (s .m) (s .n) k filled weights (s .scores) picks lows marks work
 
 -- Whatever was visited so far, where b is list i's best position: BPA2's turn at list i
-pub record Turned (i b : ℕ) (s : Poses) (q : Query) (k filled : ℕ) (picks lows marks work : List ℕ) (filled′ : ℕ) (picks′ lows′ marks′ : List ℕ) : Type 0 where
+pub record Turned (i b : ℕ) (s : Poses) (q : Query) (k filled : ℕ) (picks lows marks work : List ℕ) (filled′ : ℕ) (picks′ lows′ marks′ : List ℕ) :
+    Type 0 where
   pub turns : (tr : List Access) → Valid s → Placed s work → Whole s tr → b ≡ best s tr i
       → Goes s q k tr (next s tr i) filled picks lows marks filled′ picks′ lows′ marks′
 
@@ -83,11 +87,12 @@ pub record Rounding (s : Poses) (q : Query) (k filled : ℕ) (reach picks lows m
   pub reached : Reached s (rounds s done) reach
 
 -- After however many rounds the slices stand: one round more
-pub record Rounded (s : Poses) (q : Query) (k filled : ℕ) (reach picks lows marks work : List ℕ) (t : Turn) (picks′ lows′ marks′ : List ℕ) : Type 0 where
-  pub goes : (r : ℕ) → Standing s q k (rounds s r) filled picks lows marks work → Reached s (rounds s r) reach
-      → Goes s q k (rounds s r) (rounds s (r + 1)) filled picks lows marks (t .filled) picks′ lows′ marks′
-  pub reached : (r : ℕ) → Standing s q k (rounds s r) filled picks lows marks work → Reached s (rounds s r) reach
-      → Reached s (rounds s (r + 1)) (t .best)
-  pub counted : (r : ℕ) → Standing s q k (rounds s r) filled picks lows marks work → Reached s (rounds s r) reach
-      → made direct (rounds s (r + 1)) ≡ made direct (rounds s r) + t .found
-  pub few : t .found ≤ s .m
+pub record Rounded (s : Poses) (q : Query) (k filled : ℕ) (reach picks lows marks work : List ℕ) (t : Turn) (picks′ lows′ marks′ : List ℕ) : Type 0
+  where
+    pub goes : (r : ℕ) → Standing s q k (rounds s r) filled picks lows marks work → Reached s (rounds s r) reach
+        → Goes s q k (rounds s r) (rounds s (r + 1)) filled picks lows marks (t .filled) picks′ lows′ marks′
+    pub reached : (r : ℕ) → Standing s q k (rounds s r) filled picks lows marks work → Reached s (rounds s r) reach
+        → Reached s (rounds s (r + 1)) (t .best)
+    pub counted : (r : ℕ) → Standing s q k (rounds s r) filled picks lows marks work → Reached s (rounds s r) reach
+        → made direct (rounds s (r + 1)) ≡ made direct (rounds s r) + t .found
+    pub few : t .found ≤ s .m

@@ -46,7 +46,8 @@ pub mark-at : (s : Poses) (tr : List Access) (tally₀ : List ℕ) {marks : List
 unfolding tally
 mark-at s tr tally₀ is i p hi hp =
     rw is
-    (over-at (table (times tr) (s .n) (s .m)) tally₀ (i * s .n + p) 0 (omega (arith, table-length (times tr) (s .n) (s .m), table-room i (s .m) (s .n) hi))
+    (over-at (table (times tr) (s .n) (s .m)) tally₀ (i * s .n + p) 0
+    (omega (arith, table-length (times tr) (s .n) (s .m), table-room i (s .m) (s .n) hi))
     ∙ table-at (times tr) (s .n) (s .m) i p 0 hi hp)
 
 module _ (m n rule : ℕ) (weights items scores work : List ℕ) (r : Readable (poses m n items scores) (queryWith rule weights) work) where
@@ -100,7 +101,8 @@ module _ (m n rule : ℕ) (weights items scores work : List ℕ) (r : Readable (
         place-most = places .place-most;
         count-small = λ i hi.
             let back : getD work (i * n + d) 0 - 1 ≡ place (poses m n items scores) i d = omega (arith, w .position-at i d hi hd) in
-            rw (back, mark-at (poses m n items scores) tr tally₀ (at .tally-is) i (place (poses m n items scores) i d) hi (v .has-place i d hi hd)) (few i hi);
+            rw (back, mark-at (poses m n items scores) tr tally₀ (at .tally-is) i (place (poses m n items scores) i d) hi (v .has-place i d hi hd))
+            (few i hi);
       }
 
   pub meeting-of : {k filled₀ filled : ℕ} {tr : List Access} {picks₀ lows₀ tally₀ picks lows marks : List ℕ}
@@ -124,5 +126,11 @@ unfolding rowsTA
 row-count s v p i j d hp hi hj hd =
     let place-in = v .has-place j d hj hd in
     let all : times (rowsTA s p ++ rowTA s p (s .m)) j (place s j d) ≤ s .m = rows-most s v (suc p) j (place s j d) (omega arith) hj place-in in
-    omega
-    (arith, times-append (rowsTA s p) (rowTA s p i) j (place s j d), times-append (rowsTA s p) (rowTA s p (s .m)) j (place s j d), row-within s v p i (s .m) j (place s j d) hi, v .size .m-most)
+    omega (
+      arith,
+      times-append (rowsTA s p) (rowTA s p i) j (place s j d),
+      times-append (rowsTA s p) (rowTA s p (s .m)) j (place s j d),
+      row-within s v p i
+          (s .m) j (place s j d) hi,
+      v .size .m-most,
+    )

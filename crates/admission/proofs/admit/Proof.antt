@@ -14,7 +14,8 @@ returns c =
     let at-start = c .before .before .before .before .before .before in
     let after-shape = c .before in
     let args = at-start .args in
-    admitted-refused (args .m) (args .n) (args .rule) (args .k) (args .weights .now) (args .items .now) (args .scores .now) (args .picks) (args .lows) (args .highs) (args .tally) (args .work .now) _
+    admitted-refused (args .m) (args .n) (args .rule) (args .k) (args .weights .now) (args .items .now) (args .scores .now) (args .picks) (args .lows)
+    (args .highs) (args .tally) (args .work .now) _
     (after-shape .shape .ensures) refl refl (c .if1 .taken)
 
 check-lists-requires : tie.Need-check-lists-requires
@@ -30,7 +31,8 @@ returns-2 c =
     let after-shape = c .before .before .before .before .before in
     let else1 = c .before .before .before .before in
     let args = at-start .args in
-    admitted-checked (args .m) (args .n) (args .rule) (args .k) (args .weights .now) (args .items .now) (args .scores .now) (args .picks) (args .lows) (args .highs) (args .tally) (args .work .now) (after-check-lists .check-lists .result)
+    admitted-checked (args .m) (args .n) (args .rule) (args .k) (args .weights .now) (args .items .now) (args .scores .now) (args .picks) (args .lows)
+    (args .highs) (args .tally) (args .work .now) (after-check-lists .check-lists .result)
     (sym (after-shape .shape .ensures) ∙ else1 .if1 .left) (after-check-lists .check-lists .ensures)
 
 pub admit-spec : {M : Type 1} → statement M

@@ -29,7 +29,8 @@ rule-right c =
     le-ltb 2 (at-start .args .rule) (c .if3 .left)
 
 weights-right : (c : tie.Else4)
-    → wrongWeights ((c .before .before .before .before .before .before .before .before) .args .m) ((c .before .before .before .before .before .before .before .before) .args .weights .now) ≡ false
+    → wrongWeights ((c .before .before .before .before .before .before .before .before) .args .m)
+    ((c .before .before .before .before .before .before .before .before) .args .weights .now) ≡ false
 weights-right c =
     let after-wrong-weights = c .before in
     sym (after-wrong-weights .wrong-weights .ensures) ∙ c .if4 .left
@@ -79,7 +80,8 @@ returns-4 c =
     let else1 = c .before .before .before .before .before in
     let else2 = c .before .before .before in
     let else3 = c .before .before in
-    let four : wrongWeights (at-start .args .m) (at-start .args .weights .now) ≡ true = sym (after-wrong-weights .wrong-weights .ensures) ∙ c .if4 .taken in
+    let four : wrongWeights (at-start .args .m) (at-start .args .weights .now) ≡ true =
+    sym (after-wrong-weights .wrong-weights .ensures) ∙ c .if4 .taken in
     rw (sizes-right else1, k-right else2, rule-right else3, four)
 
 mul-size : tie.Need-mul-size
@@ -96,7 +98,14 @@ returns-5 c =
     let else3 = c .before .before .before in
     let else4 = c .before in
     let at-start = c .before .before .before .before .before .before .before .before .before in
-    rw (sizes-right else1, k-right else2, rule-right else3, weights-right else4, lt-ltb (at-start .args .items) (at-start .args .m * at-start .args .n) (c .if5 .taken))
+    rw (
+      sizes-right else1,
+      k-right else2,
+      rule-right else3,
+      weights-right else4,
+      lt-ltb (at-start .args .items)
+          (at-start .args .m * at-start .args .n) (c .if5 .taken),
+    )
 
 returns-6 : tie.Need-returns-6
 unfolding shapeOf
@@ -107,7 +116,16 @@ returns-6 c =
     let else4 = c .before .before in
     let at-start = c .before .before .before .before .before .before .before .before .before .before in
     let else5 = c .before in
-    rw (sizes-right else1, k-right else2, rule-right else3, weights-right else4, le-ltb (at-start .args .items) (at-start .args .m * at-start .args .n) (else5 .if5 .left), lt-ltb (at-start .args .scores) (at-start .args .m * at-start .args .n) (c .if6 .taken))
+    rw (
+      sizes-right else1,
+      k-right else2,
+      rule-right else3,
+      weights-right else4,
+      le-ltb (at-start .args .items)
+          (at-start .args .m * at-start .args .n) (else5 .if5 .left),
+      lt-ltb (at-start .args .scores) (at-start .args .m * at-start .args .n)
+          (c .if6 .taken),
+    )
 
 no-room-requires : tie.Need-no-room-requires
 no-room-requires c κs = tt
@@ -123,8 +141,19 @@ returns-7 c =
     let else4 = c .before .before .before .before in
     let else5 = c .before .before .before in
     let else6 = c .before .before in
-    let six : noRoomOf (at-start .args .k) (at-start .args .m * at-start .args .n) (at-start .args .picks) (at-start .args .lows) (at-start .args .highs) (at-start .args .tally) (at-start .args .work) ≡ true = sym (after-no-room .no-room .ensures) ∙ c .if7 .taken in
-    rw (sizes-right else1, k-right else2, rule-right else3, weights-right else4, le-ltb (at-start .args .items) (at-start .args .m * at-start .args .n) (else5 .if5 .left), le-ltb (at-start .args .scores) (at-start .args .m * at-start .args .n) (else6 .if6 .left), six)
+    let six : noRoomOf (at-start .args .k) (at-start .args .m * at-start .args .n) (at-start .args .picks) (at-start .args .lows)
+    (at-start .args .highs) (at-start .args .tally) (at-start .args .work) ≡ true = sym (after-no-room .no-room .ensures) ∙ c .if7 .taken in
+    rw (
+      sizes-right else1,
+      k-right else2,
+      rule-right else3,
+      weights-right else4,
+      le-ltb (at-start .args .items)
+          (at-start .args .m * at-start .args .n) (else5 .if5 .left),
+      le-ltb (at-start .args .scores) (at-start .args .m * at-start .args .n)
+          (else6 .if6 .left),
+      six,
+    )
 
 returns-8 : tie.Need-returns-8
 unfolding shapeOf
@@ -137,8 +166,19 @@ returns-8 c =
     let else4 = c .before .before .before .before in
     let else5 = c .before .before .before in
     let else6 = c .before .before in
-    let six : noRoomOf (at-start .args .k) (at-start .args .m * at-start .args .n) (at-start .args .picks) (at-start .args .lows) (at-start .args .highs) (at-start .args .tally) (at-start .args .work) ≡ false = sym (after-no-room .no-room .ensures) ∙ c .if7 .left in
-    rw (sizes-right else1, k-right else2, rule-right else3, weights-right else4, le-ltb (at-start .args .items) (at-start .args .m * at-start .args .n) (else5 .if5 .left), le-ltb (at-start .args .scores) (at-start .args .m * at-start .args .n) (else6 .if6 .left), six)
+    let six : noRoomOf (at-start .args .k) (at-start .args .m * at-start .args .n) (at-start .args .picks) (at-start .args .lows)
+    (at-start .args .highs) (at-start .args .tally) (at-start .args .work) ≡ false = sym (after-no-room .no-room .ensures) ∙ c .if7 .left in
+    rw (
+      sizes-right else1,
+      k-right else2,
+      rule-right else3,
+      weights-right else4,
+      le-ltb (at-start .args .items)
+          (at-start .args .m * at-start .args .n) (else5 .if5 .left),
+      le-ltb (at-start .args .scores) (at-start .args .m * at-start .args .n)
+          (else6 .if6 .left),
+      six,
+    )
 
 pub shape-spec : {M : Type 1} → statement M
 shape-spec =

@@ -53,9 +53,11 @@ returns-2 c =
     let after-pair = c .before in
     let else1 = c .before .before .before .before in
     let in-turn = c .before .before in
-    let heavy : ltb 1000 (weightOf (at-start .args .weights .now) (at-loop .loop .i)) ≡ true = lt-ltb 1000 (weightOf (at-start .args .weights .now) (at-loop .loop .i)) (rw (after-pair .pair .ensures) at (c .if2 .taken)) in
+    let heavy : ltb 1000 (weightOf (at-start .args .weights .now) (at-loop .loop .i)) ≡ true =
+    lt-ltb 1000 (weightOf (at-start .args .weights .now) (at-loop .loop .i)) (rw (after-pair .pair .ensures) at (c .if2 .taken)) in
     rw (eq-eqb (length (at-start .args .weights .now)) (2 * at-start .args .m) (else1 .if1 .left))
-    (sym (some-hit (λ i. ltb 1000 (weightOf (at-start .args .weights .now) i)) (at-start .args .m) (at-loop .loop .i) (in-turn .loop-test .taken) heavy))
+    (sym (some-hit (λ i. ltb 1000 (weightOf (at-start .args .weights .now) i)) (at-start .args .m) (at-loop .loop .i) (in-turn .loop-test .taken)
+    heavy))
 
 add-i : tie.Need-add-i Inv-loop μ-loop
 add-i c =

@@ -62,7 +62,8 @@ obstacle-requires : tie.Need-obstacle-requires Inv-loop μ-loop
 obstacle-requires c κs =
     let at-loop = (c .before .before .before .before .before .before .before .before .before .before) in
     let in-turn = (c .before .before .before .before .before .before .before .before .before) in
-    let at-start = (c .before .before .before .before .before .before .before .before .before .before .before .before .before .before .before .before) in
+    let at-start =
+    (c .before .before .before .before .before .before .before .before .before .before .before .before .before .before .before .before) in
     let after-read-row = (c .before .before .before .before .before .before) in
     let asked = at-start .pre .0 in
     let now = after-read-row .read-row .ensures in (

@@ -32,7 +32,8 @@ abbrev start : (c : tie.In-loop Inv-loop μ-loop) → tie.Start Inv-loop μ-loop
 start c = c .before .before .before .before .before
 
 here : (c : tie.In-loop Inv-loop μ-loop)
-    → Here ((c .before) .loop .i) ((start c) .args .m) ((start c) .args .n) (length ((start c) .args .items .now)) (length ((start c) .args .scores .now)) (length ((c .before) .loop .work))
+    → Here ((c .before) .loop .i) ((start c) .args .m) ((start c) .args .n) (length ((start c) .args .items .now))
+    (length ((start c) .args .scores .now)) (length ((c .before) .loop .work))
 here c =
     let at-loop = c .before in
     let at-start = c .before .before .before .before .before in
@@ -48,8 +49,11 @@ here c =
 
 loop-holds : tie.Need-loop-holds Inv-loop μ-loop
 loop-holds c =
-    let at-start = c .before .before .before in
-    (refl, rows-start (poses (at-start .args .m) (at-start .args .n) (at-start .args .items .now) (at-start .args .scores .now)) (at-start .args .work .now))
+    let at-start = c .before .before .before in (
+      refl,
+      rows-start (poses (at-start .args .m) (at-start .args .n) (at-start .args .items .now) (at-start .args .scores .now))
+          (at-start .args .work .now),
+    )
 
 mul-from : tie.Need-mul-from Inv-loop μ-loop
 mul-from c =
@@ -102,7 +106,11 @@ row-back c =
     omega (arith, c .note-list .kept .1 .1 .1 .1 .0, mid-len from (from + at-start .args .n) (at-loop .loop .work) (here in-turn .row-in-work))
 
 work-back : (c : tie.After-note-list Inv-loop μ-loop)
-    → length (putMid ((c .before .before .before) .loop .i * (c .before .before .before .before .before .before .before) .args .n) ((c .before .before .before) .loop .i * (c .before .before .before .before .before .before .before) .args .n + (c .before .before .before .before .before .before .before) .args .n - (c .before .before .before) .loop .i * (c .before .before .before .before .before .before .before) .args .n) ((c .before .before .before) .loop .work) (c .note-list .last .1 .1 .1 .1 .0)) ≡ length ((c .before .before .before .before .before .before .before) .args .work .now)
+    → length (putMid ((c .before .before .before) .loop .i * (c .before .before .before .before .before .before .before) .args .n)
+    ((c .before .before .before) .loop .i * (c .before .before .before .before .before .before .before) .args .n +
+    (c .before .before .before .before .before .before .before) .args .n - (c .before .before .before) .loop .i *
+    (c .before .before .before .before .before .before .before) .args .n) ((c .before .before .before) .loop .work)
+    (c .note-list .last .1 .1 .1 .1 .0)) ≡ length ((c .before .before .before .before .before .before .before) .args .work .now)
 work-back c =
     let at-loop = c .before .before .before in
     let at-start = c .before .before .before .before .before .before .before in
@@ -123,7 +131,8 @@ returns c =
     let in-turn = c .before .before .before .before .before in
     let s = poses (at-start .args .m) (at-start .args .n) (at-start .args .items .now) (at-start .args .scores .now) in
     rows-stop s (at-start .args .work .now) (at-loop .loop .inv .1) (after-note-list .note-list .last .1 .1 .1 .1 .0)
-    (in-turn .loop-test .taken) (after-note-list .note-list .ensures .answers (at-start .args .m)) (c .if1 .taken) (row-back after-note-list) (here in-turn .whole-in-work)
+    (in-turn .loop-test .taken) (after-note-list .note-list .ensures .answers (at-start .args .m)) (c .if1 .taken) (row-back after-note-list)
+    (here in-turn .whole-in-work)
 
 add-i : tie.Need-add-i Inv-loop μ-loop
 add-i c =

@@ -70,7 +70,8 @@ product-most c =
     let at-loop = c .before .before in
     let small = at-start .pre .1 in
     let read : c .local-score .result ≤ 65535 =
-    rw (c .local-score .ensures) (read-most (at-start .args .n) (at-start .args .d) (at-start .args .depth) (at-loop .loop .i) (at-start .args .high) (at-start .args .scores .now) (at-start .args .work .now) (small .scores-small)) in
+    rw (c .local-score .ensures) (read-most (at-start .args .n) (at-start .args .d) (at-start .args .depth) (at-loop .loop .i) (at-start .args .high)
+    (at-start .args .scores .now) (at-start .args .work .now) (small .scores-small)) in
     mul-le-mul read (small .weights-small (at-loop .loop .i))
 
 mul-w : tie.Need-mul-w Inv-loop μ-loop
@@ -106,7 +107,9 @@ loop-again c =
     let read = c .before in
     let at-loop = c .before .before .before in
     let joins = c .join .ensures in
-    let most = join-most (c .before .before .before .before .before .before .args .rule) (at-loop .loop .i) (at-loop .loop .acc) (read .local-score .result * getD (c .before .before .before .before .before .before .args .t7) (at-loop .loop .i) 0) in (
+    let most =
+    join-most (c .before .before .before .before .before .before .args .rule) (at-loop .loop .i) (at-loop .loop .acc)
+    (read .local-score .result * getD (c .before .before .before .before .before .before .args .t7) (at-loop .loop .i) 0) in (
       omega (arith, c .before .before .loop-test .taken),
       omega (arith, product-most read, joins, most, at-loop .loop .inv .1),
       rw (add-one (at-loop .loop .i), ← (at-loop .loop .inv .2), ← (read .local-score .ensures)) joins,

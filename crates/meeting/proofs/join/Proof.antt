@@ -43,25 +43,29 @@ returns-3 : tie.Need-returns-3
 returns-3 c =
     let args = c .before .before .before .before .args in
     sym (min-eq-left (le-of-lt (c .if4 .taken)))
-    ∙ join-smallest (args .rule) (args .i) (args .a) (args .b) (c .before .before .before .if1 .left) (c .before .before .if2 .left) (c .before .if3 .taken)
+    ∙ join-smallest (args .rule) (args .i) (args .a) (args .b) (c .before .before .before .if1 .left) (c .before .before .if2 .left)
+    (c .before .if3 .taken)
 
 returns-4 : tie.Need-returns-4
 returns-4 c =
     let args = c .before .before .before .before .args in
     sym (min-eq-right (c .if4 .left))
-    ∙ join-smallest (args .rule) (args .i) (args .a) (args .b) (c .before .before .before .if1 .left) (c .before .before .if2 .left) (c .before .if3 .taken)
+    ∙ join-smallest (args .rule) (args .i) (args .a) (args .b) (c .before .before .before .if1 .left) (c .before .before .if2 .left)
+    (c .before .if3 .taken)
 
 returns-5 : tie.Need-returns-5
 returns-5 c =
     let args = c .before .before .before .before .args in
     sym (max-eq-right (le-of-lt (c .if5 .taken)))
-    ∙ join-largest (args .rule) (args .i) (args .a) (args .b) (c .before .before .before .if1 .left) (c .before .before .if2 .left) (c .before .if3 .left)
+    ∙ join-largest (args .rule) (args .i) (args .a) (args .b) (c .before .before .before .if1 .left) (c .before .before .if2 .left)
+    (c .before .if3 .left)
 
 returns-6 : tie.Need-returns-6
 returns-6 c =
     let args = c .before .before .before .before .args in
     sym (max-eq-left (c .if5 .left))
-    ∙ join-largest (args .rule) (args .i) (args .a) (args .b) (c .before .before .before .if1 .left) (c .before .before .if2 .left) (c .before .if3 .left)
+    ∙ join-largest (args .rule) (args .i) (args .a) (args .b) (c .before .before .before .if1 .left) (c .before .before .if2 .left)
+    (c .before .if3 .left)
 
 pub join-spec : {M : Type 1} → statement M
 join-spec = tie.close (tie.spec returns add-result returns-2 returns-3 returns-4 returns-5 returns-6)

@@ -20,7 +20,8 @@ record Here (i n d depth place scores work : ℕ) : Type 0 where
   place-most : place ≤ n
 
 here : (c : tie.Start)
-    → Here (c .args .i) (c .args .n) (c .args .d) (c .args .depth) (getD (c .args .work .now) (c .args .i * c .args .n + c .args .d) 0) (length (c .args .scores .now)) (length (c .args .work .now))
+    → Here (c .args .i) (c .args .n) (c .args .d) (c .args .depth) (getD (c .args .work .now) (c .args .i * c .args .n + c .args .d) 0)
+    (length (c .args .scores .now)) (length (c .args .work .now))
 here c =
     let at = c .pre .0 in
     let room = table-room (c .args .i) (c .args .m) (c .args .n) (c .pre .1) in

@@ -30,13 +30,17 @@ same-length-2 c = search needs
 
 returns : tie.Need-returns
 returns c =
-    let at-start = (c .before .before .before .before .before .before .before .before .before .before .before .before .before .before .before .before .before .before .before) in
+    let at-start =
+    (c .before .before .before .before .before .before .before .before .before .before .before .before .before .before .before .before .before .before .before) in
     let after-search = (c .before .before .before .before .before .before .before .before) in
     let args = at-start .args in
     let last = after-search .search-within .last in
-    columned (args .which) (args .m) (args .n) (args .rule) (args .k) (args .room) (args .weights .now) (args .items .now) (args .scores .now) (args .tally .now) (args .work .now)
-    (replicate 1024 0) (replicate 1024 0) (replicate 1024 0) (after-search .search-within .result) (last .1 .1 .1 .1 .1 .1 .1 .1 .1 .0) (last .1 .1 .1 .1 .1 .1 .1 .1 .1 .1 .0) (last .1 .1 .1 .1 .1 .1 .1 .1 .1 .1 .1 .0)
-    (last .1 .1 .1 .1 .1 .1 .1 .1 .1 .1 .1 .1 .0) (last .1 .1 .1 .1 .1 .1 .1 .1 .1 .1 .1 .1 .1 .0) refl refl refl (after-search .search-within .ensures) (c .enough .result) (c .enough .ensures)
+    columned (args .which) (args .m) (args .n) (args .rule) (args .k) (args .room) (args .weights .now) (args .items .now) (args .scores .now)
+    (args .tally .now) (args .work .now)
+    (replicate 1024 0) (replicate 1024 0) (replicate 1024 0) (after-search .search-within .result) (last .1 .1 .1 .1 .1 .1 .1 .1 .1 .0)
+    (last .1 .1 .1 .1 .1 .1 .1 .1 .1 .1 .0) (last .1 .1 .1 .1 .1 .1 .1 .1 .1 .1 .1 .0)
+    (last .1 .1 .1 .1 .1 .1 .1 .1 .1 .1 .1 .1 .0) (last .1 .1 .1 .1 .1 .1 .1 .1 .1 .1 .1 .1 .1 .0) refl refl refl
+    (after-search .search-within .ensures) (c .enough .result) (c .enough .ensures)
 
 pub search-columns-spec : {M : Type 1} → statement M
 search-columns-spec =

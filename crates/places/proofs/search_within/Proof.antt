@@ -67,8 +67,10 @@ same-length-5 c = search needs
 
 returns : tie.Need-returns
 returns c =
-    let at-start = (c .before .before .before .before .before .before .before .before .before .before .before .before .before .before .before .before .before .before .before .before .before .before .before .before .before) in
-    let after-lesser = (c .before .before .before .before .before .before .before .before .before .before .before .before .before .before .before .before) in
+    let at-start =
+    (c .before .before .before .before .before .before .before .before .before .before .before .before .before .before .before .before .before .before .before .before .before .before .before .before .before) in
+    let after-lesser =
+    (c .before .before .before .before .before .before .before .before .before .before .before .before .before .before .before .before) in
     let after-search = (c .before .before .before .before .before .before .before .before .before .before) in
     let picks-lent = (c .before .before .before .before .before .before .before .before .before .before .before .before .before .before .before) in
     let lows-lent = (c .before .before .before .before .before .before .before .before .before .before .before .before .before .before) in
@@ -76,10 +78,14 @@ returns c =
     let args = at-start .args in
     let last = after-search .search .last in
     let kept = after-search .search .kept in
-    searched-parts (searchAt (args .which)) (args .m) (args .n) (args .rule) (args .k) (args .weights .now) (args .items .now) (args .scores .now) (args .picks .now) (args .lows .now) (args .highs .now) (args .tally .now) (args .work .now)
-    (after-search .search .result) (last .1 .1 .1 .1 .1 .1 .1 .1 .0) (last .1 .1 .1 .1 .1 .1 .1 .1 .1 .0) (last .1 .1 .1 .1 .1 .1 .1 .1 .1 .1 .0) (last .1 .1 .1 .1 .1 .1 .1 .1 .1 .1 .1 .0) (last .1 .1 .1 .1 .1 .1 .1 .1 .1 .1 .1 .1 .0)
+    searched-parts (searchAt (args .which)) (args .m) (args .n) (args .rule) (args .k) (args .weights .now) (args .items .now) (args .scores .now)
+    (args .picks .now) (args .lows .now) (args .highs .now) (args .tally .now) (args .work .now)
+    (after-search .search .result) (last .1 .1 .1 .1 .1 .1 .1 .1 .0) (last .1 .1 .1 .1 .1 .1 .1 .1 .1 .0) (last .1 .1 .1 .1 .1 .1 .1 .1 .1 .1 .0)
+    (last .1 .1 .1 .1 .1 .1 .1 .1 .1 .1 .1 .0) (last .1 .1 .1 .1 .1 .1 .1 .1 .1 .1 .1 .1 .0)
     (after-lesser .lesser .result) (lesserOf (args .room)) (after-lesser .lesser .ensures)
-    (kept .1 .1 .1 .1 .1 .1 .1 .1 .0 ∙ sym (slice-aggregate-search picks-lent)) (kept .1 .1 .1 .1 .1 .1 .1 .1 .1 .0 ∙ sym (slice-aggregate-search-2 lows-lent)) (kept .1 .1 .1 .1 .1 .1 .1 .1 .1 .1 .0 ∙ sym (slice-aggregate-search-3 highs-lent))
+    (kept .1 .1 .1 .1 .1 .1 .1 .1 .0 ∙ sym (slice-aggregate-search picks-lent))
+    (kept .1 .1 .1 .1 .1 .1 .1 .1 .1 .0 ∙ sym (slice-aggregate-search-2 lows-lent))
+    (kept .1 .1 .1 .1 .1 .1 .1 .1 .1 .1 .0 ∙ sym (slice-aggregate-search-3 highs-lent))
     (after-search .search .ensures)
 
 pub search-within-spec : {M : Type 1} → statement M

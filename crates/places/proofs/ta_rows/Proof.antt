@@ -26,4 +26,5 @@ ta-rows-spec 𝓤 H 𝓜 𝓖 𝓡 =
     entered 𝓤 H (tripleOf 𝓤 H (𝓖 .A) ta-rows.signature (ta-rows.spec 𝓤 H (𝓖 .A) (𝓜 .mem) (𝓡 .run)))
     (tables 𝓤 H 𝓜 𝓡 code.env .C) (tables 𝓤 H 𝓜 𝓡 code.env .Λ) #places·ta-rows code.function (code.unfolded 𝓤 H 𝓜 𝓡)
     (wrapped-meets 𝓤 H (𝓖 .A) (givenOf 𝓤 H 𝓜 𝓖) (𝓜 .mem) (𝓡 .run) TA 0 tt of-number (tablesOf 𝓤 H 𝓜 (tables 𝓤 H 𝓜 𝓡 code.env))
-    (cited 𝓤 H (RowsSpec 𝓤 H (𝓖 .A) (𝓜 .mem) (𝓡 .run)) 𝓜 𝓡 code.env #places·search-rows search-rows-def.routine code.calls-places·search-rows (search-rows-thm.met 𝓤 H 𝓜 𝓖 𝓡)))
+    (cited 𝓤 H (RowsSpec 𝓤 H (𝓖 .A) (𝓜 .mem) (𝓡 .run)) 𝓜 𝓡 code.env #places·search-rows search-rows-def.routine code.calls-places·search-rows
+    (search-rows-thm.met 𝓤 H 𝓜 𝓖 𝓡)))

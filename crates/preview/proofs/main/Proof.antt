@@ -51,7 +51,8 @@ array-share-prefix-out : tie.Need-array-share-prefix-out
 array-share-prefix-out c = preview-within (c .before .before .before .before .before .before .before .before .preview .ensures)
 
 slice-aggregate-write-all : tie.Need-slice-aggregate-write-all
-slice-aggregate-write-all c = sym (length-take-le _ _ (preview-within (c .before .before .before .before .before .before .before .before .before .preview .ensures)))
+slice-aggregate-write-all c = sym (length-take-le _ _
+    (preview-within (c .before .before .before .before .before .before .before .before .before .preview .ensures)))
 
 write-all-requires : tie.Need-write-all-requires
 write-all-requires c κs = search needs

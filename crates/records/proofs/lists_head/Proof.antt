@@ -43,7 +43,8 @@ past-12 c =
 
 -- test 1 at the sizes of the record
 size-tested : (c : tie.After-wrong-size)
-    → wrongSize (listsM (lent (c .before .before .before .before .before .before .before .before .before))) (listsN (lent (c .before .before .before .before .before .before .before .before .before))) ≡ c .wrong-size .result
+    → wrongSize (listsM (lent (c .before .before .before .before .before .before .before .before .before)))
+    (listsN (lent (c .before .before .before .before .before .before .before .before .before))) ≡ c .wrong-size .result
 size-tested c =
     let after-m = c .before .before in
     let after-n = c .before in
@@ -65,7 +66,8 @@ size-small c =
 
 -- what the length is compared with is what the counts say
 counted : (c : tie.Else4)
-    → 4 + 2 * c .before .before .before .lists-m .result + 4 * (c .before .before .before .lists-m .result * c .before .before .lists-n .result) ≡ listsSays (lent (c .before .before .before .before .before .before .before .before .before .before))
+    → 4 + 2 * c .before .before .before .lists-m .result + 4 * (c .before .before .before .lists-m .result * c .before .before .lists-n .result) ≡
+    listsSays (lent (c .before .before .before .before .before .before .before .before .before .before))
 counted c =
     let after-m = c .before .before .before in
     let after-n = c .before .before in

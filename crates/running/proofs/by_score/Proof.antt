@@ -18,7 +18,8 @@ run-requires c κs =
 
 repeat-lows-requires : tie.Need-repeat-lows-requires
 repeat-lows-requires c κs =
-    let at-start = (c .before .before .before .before .before .before .before .before .before .before .before .before .before .before .before .before .before .before .before) in
+    let at-start =
+    (c .before .before .before .before .before .before .before .before .before .before .before .before .before .before .before .before .before .before .before) in
     let after-run = (c .before .before .before .before .before .before .before .before) in
     let room = at-start .pre .1 .1 in
     (omega (arith, room .lows-long, after-run .run .kept .1 .1 .1 .1 .1 .1 .1 .1 .1 .0), room .highs-long)
@@ -37,12 +38,14 @@ same-length-4 c = search needs
 
 returns : tie.Need-returns
 returns c =
-    let at-start = (c .before .before .before .before .before .before .before .before .before .before .before .before .before .before .before .before .before .before .before .before .before .before) in
+    let at-start =
+    (c .before .before .before .before .before .before .before .before .before .before .before .before .before .before .before .before .before .before .before .before .before .before) in
     let after-run = (c .before .before .before .before .before .before .before .before .before .before .before) in
     let after-repeat-lows = (c .before .before) in
     let read = at-start .pre .1 .0 in
     let room = at-start .pre .1 .1 in
-    scored-runs _ _ _ _ _ _ _ _ _ _ _ _ _ (at-start .pre .0) (read .lists-valid) (room .k-least) (room .k-most) (after-run .run .ensures) (after-repeat-lows .repeat-lows .ensures)
+    scored-runs _ _ _ _ _ _ _ _ _ _ _ _ _ (at-start .pre .0) (read .lists-valid) (room .k-least) (room .k-most) (after-run .run .ensures)
+    (after-repeat-lows .repeat-lows .ensures)
 
 pub by-score-spec : {M : Type 1} → statement M
 by-score-spec =

@@ -52,8 +52,13 @@ loop-less c = omega arith
 loop-again : tie.Need-loop-again Inv-loop μ-loop
 loop-again c =
     let at-loop = c .before .before in
-    let at-start = c .before .before .before in
-    (omega arith, simp length-set (at-loop .loop .inv .1), rw (at-loop .loop .inv .2) (copied-more (at-loop .loop .i) (at-start .args .lows .now) (at-start .args .highs .now) (omega (arith, at-start .pre)) (omega (arith, at-start .pre))))
+    let at-start = c .before .before .before in (
+      omega arith,
+      simp length-set (at-loop .loop .inv .1),
+      rw (at-loop .loop .inv .2)
+          (copied-more (at-loop .loop .i) (at-start .args .lows .now) (at-start .args .highs .now) (omega (arith, at-start .pre))
+          (omega (arith, at-start .pre))),
+    )
 
 same-length : tie.Need-same-length Inv-loop μ-loop
 same-length c =

@@ -39,12 +39,15 @@ run-nra-requires c κs =
 
 only-sorted-requires : tie.Need-only-sorted-requires
 only-sorted-requires c κs =
-    let at-start = (c .before .before .before .before .before .before .before .before .before .before .before .before .before .before .before .before .before .before .before .before .before) in
+    let at-start =
+    (c .before .before .before .before .before .before .before .before .before .before .before .before .before .before .before .before .before .before .before .before .before) in
     let after-run-nra = (c .before .before .before .before .before .before .before .before) in
     let args = at-start .args in
     let valid = at-start .pre .0 .lists-valid in
     let room = at-start .pre .1 in
-    let all = promised (poses (args .m) (args .n) (args .items .now) (args .scores .now)) valid (queryWith (args .rule) (args .weights)) (args .k) (room .k-least) (room .k-most) in
+    let all =
+    promised (poses (args .m) (args .n) (args .items .now) (args .scores .now)) valid (queryWith (args .rule) (args .weights)) (args .k)
+    (room .k-least) (room .k-most) in
     (valid .size .m-most, omega (arith, after-run-nra .run-nra .ensures .rows-are, all .nra .row-most, valid .size .n-most))
 
 same-length-5 : tie.Need-same-length-5
@@ -61,12 +64,14 @@ same-length-8 c = search needs
 
 returns-2 : tie.Need-returns-2
 returns-2 c =
-    let at-start = (c .before .before .before .before .before .before .before .before .before .before .before .before .before .before .before .before .before .before .before .before .before .before) in
+    let at-start =
+    (c .before .before .before .before .before .before .before .before .before .before .before .before .before .before .before .before .before .before .before .before .before .before) in
     let else1 = (c .before .before .before .before .before .before .before .before .before .before .before .before .before .before) in
     let after-run-nra = (c .before .before .before .before .before .before .before .before .before) in
     let after-only-sorted = c in
     let room = at-start .pre .1 in
-    bounded-runs _ _ _ _ _ _ _ _ _ _ _ _ _ (omega (arith, else1 .if1 .left)) (at-start .pre .0 .lists-valid) (room .k-least) (room .k-most) (after-run-nra .run-nra .ensures) (after-only-sorted .only-sorted .ensures)
+    bounded-runs _ _ _ _ _ _ _ _ _ _ _ _ _ (omega (arith, else1 .if1 .left)) (at-start .pre .0 .lists-valid) (room .k-least) (room .k-most)
+    (after-run-nra .run-nra .ensures) (after-only-sorted .only-sorted .ensures)
 
 pub run-spec : {M : Type 1} → statement M
 run-spec =

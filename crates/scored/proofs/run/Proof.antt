@@ -47,12 +47,14 @@ loop-holds : tie.Need-loop-holds Inv-loop μ-loop
 loop-holds c =
     let at-start = c .before .before .before .before .before .before .before .before .before .before in
     let after-clear = c .before .before in
-    between-starts (at-start .args .which) (lent at-start) (asked at-start) (at-start .args .k) (at-start .args .picks .now) (at-start .args .lows .now) (after-clear .clear .last .0) (at-start .args .tally .now) (replicate 8 0)
+    between-starts (at-start .args .which) (lent at-start) (asked at-start) (at-start .args .k) (at-start .args .picks .now)
+    (at-start .args .lows .now) (after-clear .clear .last .0) (at-start .args .tally .now) (replicate 8 0)
     (at-start .pre .readable .lists-valid) (after-clear .clear .ensures) (after-clear .clear .kept .0) (zeros-at 8)
 
 -- the cleared tally is long enough
 tally-room : (c : tie.After-clear Inv-loop μ-loop)
-    → (c .before .before .before .before .before .before .before .before) .args .m * (c .before .before .before .before .before .before .before .before) .args .n ≤ length (c .clear .last .0)
+    → (c .before .before .before .before .before .before .before .before) .args .m *
+    (c .before .before .before .before .before .before .before .before) .args .n ≤ length (c .clear .last .0)
 tally-room c =
     let at-start = c .before .before .before .before .before .before .before .before in
     omega (arith, at-start .pre .tally-long, c .clear .kept .0)
@@ -64,7 +66,10 @@ step-requires c κs =
     let after-clear = c .before .before .before .before .before .before in
     let b = at-loop .loop .inv in
     record {
-      standing = standing-between (at-start .args .m) (at-start .args .n) (at-start .args .rule) (at-start .args .weights) (at-start .args .items .now) (at-start .args .scores .now) (at-start .args .work .now) (at-start .pre .readable) (at-start .args .which) (at-start .args .k) (at-start .args .picks .now) (at-start .args .lows .now) (after-clear .clear .last .0) (at-start .pre .keeps) (tally-room after-clear) b;
+      standing = standing-between (at-start .args .m) (at-start .args .n) (at-start .args .rule) (at-start .args .weights)
+          (at-start .args .items .now) (at-start .args .scores .now) (at-start .args .work .now) (at-start .pre .readable) (at-start .args .which)
+          (at-start .args .k) (at-start .args .picks .now) (at-start .args .lows .now) (after-clear .clear .last .0) (at-start .pre .keeps)
+          (tally-room after-clear) b;
       reached = b .reached;
       not-last = b .not-last;
     }
@@ -75,7 +80,9 @@ add-found c =
     let at-start = c .before .before .before .before .before .before .before .before .before .before .before .before .before .before .before .before .before .before .before .before .before .before in
     let after-step = c .before .before .before .before .before .before .before in
     let b = at-loop .loop .inv in
-    let size = mul-le-mul {n₁ = at-loop .loop .p} {m₁ = at-start .args .m} {n₂ = 1024} {m₂ = 8} (omega (arith, b .not-last, at-start .pre .readable .lists-valid .size .n-most)) (at-start .pre .readable .lists-valid .size .m-most) in
+    let size =
+    mul-le-mul {n₁ = at-loop .loop .p} {m₁ = at-start .args .m} {n₂ = 1024} {m₂ = 8}
+    (omega (arith, b .not-last, at-start .pre .readable .lists-valid .size .n-most)) (at-start .pre .readable .lists-valid .size .m-most) in
     omega (arith, b .few, size, after-step .step .ensures .few, at-start .pre .readable .lists-valid .size .m-most)
 
 add-p : tie.Need-add-p Inv-loop μ-loop
@@ -90,7 +97,9 @@ places-requires c κs =
     let after-clear = c .before .before .before .before .before .before .before .before .before .before .before .before .before .before .before .before in
     let at-loop = c .before .before .before .before .before .before .before .before .before .before .before .before .before in
     let after-step = c .before .before .before .before .before .before .before .before .before in
-    advancing-then (at-start .args .m) (at-start .args .n) (at-start .args .rule) (at-start .args .weights) (at-start .args .items .now) (at-start .args .scores .now) (at-start .args .work .now) (at-start .pre .readable) (at-start .args .which) (at-start .args .k) (at-start .args .picks .now) (at-start .args .lows .now) (after-clear .clear .last .0) (at-start .pre .keeps) (tally-room after-clear)
+    advancing-then (at-start .args .m) (at-start .args .n) (at-start .args .rule) (at-start .args .weights) (at-start .args .items .now)
+    (at-start .args .scores .now) (at-start .args .work .now) (at-start .pre .readable) (at-start .args .which) (at-start .args .k)
+    (at-start .args .picks .now) (at-start .args .lows .now) (after-clear .clear .last .0) (at-start .pre .keeps) (tally-room after-clear)
     (at-loop .loop .inv) (after-step .step .ensures)
 
 -- one row or round later
@@ -101,7 +110,9 @@ later c =
     let after-clear = c .before .before .before .before .before .before .before .before .before .before .before .before .before .before .before .before .before in
     let at-loop = c .before .before .before .before .before .before .before .before .before .before .before .before .before .before in
     let after-step = c .before .before .before .before .before .before .before .before .before .before in
-    row-made (at-start .args .m) (at-start .args .n) (at-start .args .rule) (at-start .args .weights) (at-start .args .items .now) (at-start .args .scores .now) (at-start .args .work .now) (at-start .pre .readable) (at-start .args .which) (at-start .args .k) (at-start .args .picks .now) (at-start .args .lows .now) (after-clear .clear .last .0) (at-start .pre .keeps) (tally-room after-clear)
+    row-made (at-start .args .m) (at-start .args .n) (at-start .args .rule) (at-start .args .weights) (at-start .args .items .now)
+    (at-start .args .scores .now) (at-start .args .work .now) (at-start .pre .readable) (at-start .args .which) (at-start .args .k)
+    (at-start .args .picks .now) (at-start .args .lows .now) (after-clear .clear .last .0) (at-start .pre .keeps) (tally-room after-clear)
     (at-loop .loop .inv) (after-step .step .ensures) (c .places .ensures)
 
 ends-requires : tie.Need-ends-requires Inv-loop μ-loop
@@ -110,9 +121,15 @@ ends-requires c κs =
     let at-start = c .before .before .before .before .before .before .before .before .before .before .before .before .before .before .before .before .before .before .before .before .before .before .before .before .before .before in
     let after-clear = c .before .before .before .before .before .before .before .before .before .before .before .before .before .before .before .before .before .before in
     let known = later after-places in (
-      limited-after (at-start .args .m) (at-start .args .n) (at-start .args .rule) (at-start .args .weights) (at-start .args .items .now) (at-start .args .scores .now) (at-start .args .work .now) (at-start .pre .readable) (at-start .args .which) (at-start .args .k) (at-start .args .picks .now) (at-start .args .lows .now) (after-clear .clear .last .0) (at-start .pre .keeps) (tally-room after-clear) known,
+      limited-after (at-start .args .m) (at-start .args .n) (at-start .args .rule) (at-start .args .weights) (at-start .args .items .now)
+          (at-start .args .scores .now) (at-start .args .work .now) (at-start .pre .readable) (at-start .args .which) (at-start .args .k)
+          (at-start .args .picks .now) (at-start .args .lows .now) (after-clear .clear .last .0) (at-start .pre .keeps) (tally-room after-clear)
+          known,
       at-start .pre .keeps .k-least,
-      lows-after (at-start .args .m) (at-start .args .n) (at-start .args .rule) (at-start .args .weights) (at-start .args .items .now) (at-start .args .scores .now) (at-start .args .work .now) (at-start .pre .readable) (at-start .args .which) (at-start .args .k) (at-start .args .picks .now) (at-start .args .lows .now) (after-clear .clear .last .0) (at-start .pre .keeps) (tally-room after-clear) known,
+      lows-after (at-start .args .m) (at-start .args .n) (at-start .args .rule) (at-start .args .weights) (at-start .args .items .now)
+          (at-start .args .scores .now) (at-start .args .work .now) (at-start .pre .readable) (at-start .args .which) (at-start .args .k)
+          (at-start .args .picks .now) (at-start .args .lows .now) (after-clear .clear .last .0) (at-start .pre .keeps) (tally-room after-clear)
+          known,
     )
 
 counts-requires : tie.Need-counts-requires Inv-loop μ-loop
@@ -122,7 +139,9 @@ counts-requires c κs =
     let at-loop = c .before .before .before .before .before .before .before .before .before .before .before .before .before .before .before .before .before in
     let known = later after-places in
     let sizes = at-start .pre .readable .lists-valid .size in
-    let size = mul-le-mul {n₁ = at-loop .loop .p + 1} {m₁ = at-start .args .m} {n₂ = 1024} {m₂ = 8} (omega (arith, known .row-most, sizes .n-most)) (sizes .m-most) in
+    let size =
+    mul-le-mul {n₁ = at-loop .loop .p + 1} {m₁ = at-start .args .m} {n₂ = 1024} {m₂ = 8} (omega (arith, known .row-most, sizes .n-most))
+    (sizes .m-most) in
     record {
       p-most = omega (arith, known .row-most, sizes .n-most);
       m-least = sizes .m-least;
@@ -155,8 +174,11 @@ returns c =
     let after-ends = c .before .before in
     let then1 = c .before in
     let size = at-start .args .m * at-start .args .n in
-    let cleared : after-clear .clear .last .0 ≡ replicate size 0 ++ drop (length (replicate {A = ℕ} size 0)) (at-start .args .tally .now) = after-clear .clear .ensures ∙ rw (length-replicate {A = ℕ} size 0) in
-    run-ends (at-start .args .m) (at-start .args .n) (at-start .args .rule) (at-start .args .weights) (at-start .args .items .now) (at-start .args .scores .now) (at-start .args .work .now) (at-start .pre .readable) (at-start .args .which) (at-start .args .k) (at-start .args .picks .now) (at-start .args .lows .now) (after-clear .clear .last .0) (at-start .pre .keeps) (tally-room after-clear)
+    let cleared : after-clear .clear .last .0 ≡ replicate size 0 ++ drop (length (replicate {A = ℕ} size 0)) (at-start .args .tally .now) =
+    after-clear .clear .ensures ∙ rw (length-replicate {A = ℕ} size 0) in
+    run-ends (at-start .args .m) (at-start .args .n) (at-start .args .rule) (at-start .args .weights) (at-start .args .items .now)
+    (at-start .args .scores .now) (at-start .args .work .now) (at-start .pre .readable) (at-start .args .which) (at-start .args .k)
+    (at-start .args .picks .now) (at-start .args .lows .now) (after-clear .clear .last .0) (at-start .pre .keeps) (tally-room after-clear)
     (later after-places) (at-start .args .tally .now) (sym (after-ends .ends .ensures) ∙ then1 .if1 .taken) (c .counts .ensures) cleared
 
 loop-less : tie.Need-loop-less Inv-loop μ-loop
@@ -170,7 +192,9 @@ loop-again c =
     let after-clear = c .before .before .before .before .before .before .before .before .before .before .before .before .before .before .before .before .before .before .before .before in
     let after-places = c .before .before .before in
     let after-ends = c .before in
-    after-goes-on (at-start .args .m) (at-start .args .n) (at-start .args .rule) (at-start .args .weights) (at-start .args .items .now) (at-start .args .scores .now) (at-start .args .work .now) (at-start .pre .readable) (at-start .args .which) (at-start .args .k) (at-start .args .picks .now) (at-start .args .lows .now) (after-clear .clear .last .0) (at-start .pre .keeps) (tally-room after-clear)
+    after-goes-on (at-start .args .m) (at-start .args .n) (at-start .args .rule) (at-start .args .weights) (at-start .args .items .now)
+    (at-start .args .scores .now) (at-start .args .work .now) (at-start .pre .readable) (at-start .args .which) (at-start .args .k)
+    (at-start .args .picks .now) (at-start .args .lows .now) (after-clear .clear .last .0) (at-start .pre .keeps) (tally-room after-clear)
     (later after-places) (sym (after-ends .ends .ensures) ∙ c .if1 .left)
 
 pub run-spec : {M : Type 1} → statement M

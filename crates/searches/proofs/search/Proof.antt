@@ -27,7 +27,8 @@ returns c =
     let then1 = (c .before) in
     let args = at-start .args in
     let tests = after-admit .admit .ensures in
-    refused-answer _ (lentWith (args .m) (args .n) (args .rule) (args .k) (args .weights .now) (args .items .now) (args .scores .now) (args .picks .now) (args .lows .now) (args .highs .now) (args .tally .now) (args .work .now)) (after-admit .admit .result) _ _
+    refused-answer _ (lentWith (args .m) (args .n) (args .rule) (args .k) (args .weights .now) (args .items .now) (args .scores .now)
+    (args .picks .now) (args .lows .now) (args .highs .now) (args .tally .now) (args .work .now)) (after-admit .admit .result) _ _
     (c .refused .ensures) (then1 .if1 .taken)
     (tests .answers (args .picks .now) (args .lows .now) (args .highs .now) (args .tally .now) refl refl refl refl)
     (tests .leaves (args .picks .now) (args .lows .now) (args .highs .now) (args .tally .now) refl refl refl refl)
@@ -43,9 +44,11 @@ run-requires c κs =
     let after-admit = (c .before .before .before .before .before .before .before .before .before .before) in
     let else1 = (c .before .before .before .before .before .before) in
     let after-decode = (c .before .before .before .before .before) in
-    let after-shared-slice-known2 = (c .before .before .before .before .before .before .before .before .before .before .before .before .before .before .before .before .before .before) in
+    let after-shared-slice-known2 =
+    (c .before .before .before .before .before .before .before .before .before .before .before .before .before .before .before .before .before .before) in
     let through = passed (after-admit .admit .ensures) (else1 .if1 .left) in (
-      readable (after-decode .decode .result) through (after-decode .decode .ensures) (λ j. omega (arith, after-shared-slice-known2 .shared-slice-known2 .given j)),
+      readable (after-decode .decode .result) through (after-decode .decode .ensures)
+          (λ j. omega (arith, after-shared-slice-known2 .shared-slice-known2 .given j)),
       record {
         k-least = through .k-least;
         k-most = through .k-most;
@@ -73,20 +76,25 @@ same-length-5 c = search needs
 
 same-length-6 : tie.Need-same-length-6
 same-length-6 c =
-    let after-admit = (c .before .before .before .before .before .before .before .before .before .before .before .before .before .before .before .before .before .before .before .before) in
+    let after-admit =
+    (c .before .before .before .before .before .before .before .before .before .before .before .before .before .before .before .before .before .before .before .before) in
     after-admit .admit .kept .1 .1 .1 .1 .1 .1 .1 .1 .1 .1 .1 .0
 
 returns-2 : tie.Need-returns-2
 unfolding posesOf
 returns-2 c =
-    let at-start = (c .before .before .before .before .before .before .before .before .before .before .before .before .before .before .before .before .before .before .before .before .before .before .before .before .before .before .before .before .before .before) in
-    let after-admit = (c .before .before .before .before .before .before .before .before .before .before .before .before .before .before .before .before .before .before .before .before) in
+    let at-start =
+    (c .before .before .before .before .before .before .before .before .before .before .before .before .before .before .before .before .before .before .before .before .before .before .before .before .before .before .before .before .before .before) in
+    let after-admit =
+    (c .before .before .before .before .before .before .before .before .before .before .before .before .before .before .before .before .before .before .before .before) in
     let else1 = (c .before .before .before .before .before .before .before .before .before .before .before .before .before .before .before .before) in
     let after-decode = (c .before .before .before .before .before .before .before .before .before .before .before .before .before .before .before) in
     let after-run = (c .before .before .before .before .before .before .before .before .before) in
     let args = at-start .args in
     let tests = after-admit .admit .ensures in
-    search-answer (args .which) (lentWith (args .m) (args .n) (args .rule) (args .k) (args .weights .now) (args .items .now) (args .scores .now) (args .picks .now) (args .lows .now) (args .highs .now) (args .tally .now) (args .work .now)) (after-admit .admit .result) (after-decode .decode .result) (after-run .run .result) _ _ _ _ _ _
+    search-answer (args .which) (lentWith (args .m) (args .n) (args .rule) (args .k) (args .weights .now) (args .items .now) (args .scores .now)
+    (args .picks .now) (args .lows .now) (args .highs .now) (args .tally .now) (args .work .now)) (after-admit .admit .result)
+    (after-decode .decode .result) (after-run .run .result) _ _ _ _ _ _
     (else1 .if1 .left)
     (tests .answers (args .picks .now) (args .lows .now) (args .highs .now) (args .tally .now) refl refl refl refl)
     (after-decode .decode .ensures) (after-run .run .ensures) (c .found .ensures)

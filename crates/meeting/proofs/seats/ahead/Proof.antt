@@ -43,7 +43,13 @@ returns-4 c =
     let a = at-start .args in
     let low-same : a .low ≡ a .lo = omega (arith, else1 .if1 .left, else2 .if2 .left) in
     let apart : a .high ≡ a .hi → ⊥ = λ e. omega (arith, c .if4 .taken) in
-    rw (le-ltb (a .lo) (a .low) (else1 .if1 .left), eq-eqb (a .low) (a .lo) low-same, le-ltb (a .hi) (a .high) (else3 .if3 .left), ne-eqb (a .high) (a .hi) apart)
+    rw (
+      le-ltb (a .lo) (a .low) (else1 .if1 .left),
+      eq-eqb (a .low) (a .lo) low-same,
+      le-ltb (a .hi) (a .high) (else3 .if3 .left),
+      ne-eqb (a .high)
+          (a .hi) apart,
+    )
 
 returns-5 : tie.Need-returns-5
 unfolding aheadOf
@@ -55,7 +61,13 @@ returns-5 c =
     let a = at-start .args in
     let low-same : a .low ≡ a .lo = omega (arith, else1 .if1 .left, else2 .if2 .left) in
     let high-same : a .high ≡ a .hi = omega (arith, else3 .if3 .left, c .if4 .left) in
-    rw (le-ltb (a .lo) (a .low) (else1 .if1 .left), eq-eqb (a .low) (a .lo) low-same, le-ltb (a .hi) (a .high) (else3 .if3 .left), eq-eqb (a .high) (a .hi) high-same)
+    rw (
+      le-ltb (a .lo) (a .low) (else1 .if1 .left),
+      eq-eqb (a .low) (a .lo) low-same,
+      le-ltb (a .hi) (a .high) (else3 .if3 .left),
+      eq-eqb (a .high)
+          (a .hi) high-same,
+    )
 
 pub ahead-spec : {M : Type 1} → statement M
 ahead-spec = tie.close (tie.spec returns returns-2 returns-3 returns-4 returns-5)

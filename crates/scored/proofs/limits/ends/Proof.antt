@@ -42,7 +42,11 @@ returns-3 c =
     let else1 = c .before .before .before in
     let else2 = c .before .before in
     let after-threshold = c .before in
-    rw (ne-eqb (at-start .args .p) (at-start .args .n) (else1 .if1 .left), le-leb (at-start .args .k) (at-start .args .filled) (else2 .if2 .left), ← (after-threshold .threshold .ensures))
+    rw (
+      ne-eqb (at-start .args .p) (at-start .args .n) (else1 .if1 .left),
+      le-leb (at-start .args .k) (at-start .args .filled) (else2 .if2 .left),
+      ← (after-threshold .threshold .ensures),
+    )
 
 pub ends-spec : {M : Type 1} → statement M
 ends-spec =

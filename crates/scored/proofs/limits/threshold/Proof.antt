@@ -33,7 +33,8 @@ record Here (i n at scores : ℕ) : Type 0 where
   at-most : at ≤ n
 
 here : (c : tie.In-loop Inv-loop μ-loop)
-    → Here (c .before .loop .i) ((c .before .before .before) .args .n) (getD ((c .before .before .before) .args .t5) (c .before .loop .i) 0) (length ((c .before .before .before) .args .scores .now))
+    → Here (c .before .loop .i) ((c .before .before .before) .args .n) (getD ((c .before .before .before) .args .t5) (c .before .loop .i) 0)
+    (length ((c .before .before .before) .args .scores .now))
 here c =
     let at-start = c .before .before .before in
     let i = c .before .loop .i in
@@ -93,12 +94,15 @@ array-read-w c =
 
 -- the score that was read, as the definition has it
 read-is : (c : tie.After-wider Inv-loop μ-loop)
-    → c .wider .result ≡ getD ((c .before .before .before .before .before) .args .scores .now) ((c .before .before .before) .loop .i * (c .before .before .before .before .before) .args .n + (getD ((c .before .before .before .before .before) .args .t5) ((c .before .before .before) .loop .i) 0 - 1)) 0
+    → c .wider .result ≡ getD ((c .before .before .before .before .before) .args .scores .now)
+    ((c .before .before .before) .loop .i * (c .before .before .before .before .before) .args .n +
+    (getD ((c .before .before .before .before .before) .args .t5) ((c .before .before .before) .loop .i) 0 - 1)) 0
 read-is c =
     let at-loop = c .before .before .before in
     let at-start = c .before .before .before .before .before in
     let in-turn = c .before .before in
-    let index : at-loop .loop .i * at-start .args .n + getD (at-start .args .t5) (at-loop .loop .i) 0 - 1 ≡ at-loop .loop .i * at-start .args .n + (getD (at-start .args .t5) (at-loop .loop .i) 0 - 1) = omega (arith, here in-turn) in
+    let index : at-loop .loop .i * at-start .args .n + getD (at-start .args .t5) (at-loop .loop .i) 0 - 1 ≡ at-loop .loop .i * at-start .args .n +
+    (getD (at-start .args .t5) (at-loop .loop .i) 0 - 1) = omega (arith, here in-turn) in
     c .wider .ensures ∙ ap (λ (x : ℕ). getD (at-start .args .scores .now) x 0) index
 
 product-small : (c : tie.After-wider Inv-loop μ-loop)
@@ -107,7 +111,9 @@ product-small c =
     let at-start = c .before .before .before .before .before in
     let at-loop = c .before .before .before in
     let small = at-start .pre .small in
-    product-most (c .wider .result) (getD (at-start .args .t2) (at-loop .loop .i) 0) (rw (read-is c) (small .scores-small (at-loop .loop .i * at-start .args .n + (getD (at-start .args .t5) (at-loop .loop .i) 0 - 1)))) (small .weights-small (at-loop .loop .i))
+    product-most (c .wider .result) (getD (at-start .args .t2) (at-loop .loop .i) 0)
+    (rw (read-is c) (small .scores-small (at-loop .loop .i * at-start .args .n + (getD (at-start .args .t5) (at-loop .loop .i) 0 - 1))))
+    (small .weights-small (at-loop .loop .i))
 
 mul-join : tie.Need-mul-join Inv-loop μ-loop
 mul-join c = omega (arith, product-small c)

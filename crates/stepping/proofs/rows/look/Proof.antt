@@ -25,7 +25,9 @@ record Here (i b n items : ℕ) : Type 0 where
   entry-in : i * n + b < items
 
 here : (c : tie.Else1)
-    → Here ((c .before .before .before .before .before .before .before) .args .i) ((c .before .before .before .before .before .before .before) .args .b) ((c .before .before .before .before .before .before .before) .args .n) (length ((c .before .before .before .before .before .before .before) .args .items .now))
+    → Here ((c .before .before .before .before .before .before .before) .args .i)
+    ((c .before .before .before .before .before .before .before) .args .b) ((c .before .before .before .before .before .before .before) .args .n)
+    (length ((c .before .before .before .before .before .before .before) .args .items .now))
 here c =
     let at-start = c .before .before .before .before .before .before .before in
     let inside : at-start .args .b < at-start .args .n = omega (arith, at-start .pre .at-most, c .if1 .left) in
@@ -83,7 +85,9 @@ returns-2 c =
     let i = at-start .args .i in
     record {
       turns = λ tr v w whole e.
-          let more = after-meet .meet .ensures .looks-up (at-start .args .items .now) tr direct i (at-start .args .b) v w whole (at-start .pre .list-within) (here else1 .inside) refl in
+          let more =
+          after-meet .meet .ensures .looks-up (at-start .args .items .now) tr direct i (at-start .args .b) v w whole (at-start .pre .list-within)
+          (here else1 .inside) refl in
           goes-to (sym (rw e (next-look s tr i (λ full. else1 .if1 .left (e ∙ full))))) more;
     }
 

@@ -58,7 +58,8 @@ wide-requires-2 c κs = tt
 
 -- the position that was read is item d's
 place-read : (c : tie.After-wide2)
-    → c .wide2 .result ≡ getD ((c .before .before .before .before .before .before .before .before) .args .work .now) ((c .before .before .before .before .before .before .before .before) .args .d) 0
+    → c .wide2 .result ≡ getD ((c .before .before .before .before .before .before .before .before) .args .work .now)
+    ((c .before .before .before .before .before .before .before .before) .args .d) 0
 place-read c =
     let at-start = c .before .before .before .before .before .before .before .before in
     let after-wide = c .before .before in
@@ -86,11 +87,16 @@ same-length c = search needs
 
 -- the tally after the visit of item d
 visited-d : (c : tie.After-visit)
-    → c .visit .last .1 .1 .1 .0 ≡ visitedOnce ((c .before .before .before .before .before .before .before .before .before .before .before) .args .d) ((c .before .before .before .before .before .before .before .before .before .before .before) .args .m) ((c .before .before .before .before .before .before .before .before .before .before .before) .args .n) ((c .before .before .before .before .before .before .before .before .before .before .before) .args .work .now) ((c .before .before .before .before .before .before .before .before .before .before .before) .args .tally .now)
+    → c .visit .last .1 .1 .1 .0 ≡ visitedOnce ((c .before .before .before .before .before .before .before .before .before .before .before) .args .d)
+    ((c .before .before .before .before .before .before .before .before .before .before .before) .args .m)
+    ((c .before .before .before .before .before .before .before .before .before .before .before) .args .n)
+    ((c .before .before .before .before .before .before .before .before .before .before .before) .args .work .now)
+    ((c .before .before .before .before .before .before .before .before .before .before .before) .args .tally .now)
 visited-d c =
     let at-start = c .before .before .before .before .before .before .before .before .before .before .before in
     let after-wide = c .before .before .before .before .before in
-    c .visit .ensures ∙ ap (λ (x : ℕ). visitedOnce x (at-start .args .m) (at-start .args .n) (at-start .args .work .now) (at-start .args .tally .now)) (after-wide .wide .ensures)
+    c .visit .ensures ∙ ap (λ (x : ℕ). visitedOnce x (at-start .args .m) (at-start .args .n) (at-start .args .work .now) (at-start .args .tally .now))
+    (after-wide .wide .ensures)
 
 returns : tie.Need-returns
 returns c =
@@ -105,10 +111,12 @@ returns c =
             step = λ picks₀ lows₀ tally₀ at.
                 let s = poses (at-start .args .m) (at-start .args .n) items (at-start .args .scores .now) in
                 let q = queryWith (at-start .args .rule) (at-start .args .weights) in
-                let some : getD (at-start .args .tally .now) (getD (at-start .args .work .now) (at-start .args .d) 0 - 1) 0 ≡ 0 → ⊥ = λ e. c .if1 .taken (read ∙ e) in
+                let some : getD (at-start .args .tally .now) (getD (at-start .args .work .now) (at-start .args .d) 0 - 1) 0 ≡ 0
+                → ⊥ = λ e. c .if1 .taken (read ∙ e) in
                 let old = met-told s q (at-start .args .work .now) v w tr tally₀ (at .tally-is) whole (at-start .args .d) small
                 ∙ le-leb 1 (getD (at-start .args .tally .now) (getD (at-start .args .work .now) (at-start .args .d) 0 - 1) 0) (pos-of-ne-zero some) in
-                meets-again s q (at-start .args .work .now) v w whole a i p (at-start .args .d) hi hp found small at (visited-d after-visit) (after-visit .visit .kept .1 .1 .1 .0) old;
+                meets-again s q (at-start .args .work .now) v w whole a i p (at-start .args .d) hi hp found small at (visited-d after-visit)
+                (after-visit .visit .kept .1 .1 .1 .0) old;
           };
     }
 
@@ -150,10 +158,13 @@ returns-2 c =
                 let s = poses (at-start .args .m) (at-start .args .n) items (at-start .args .scores .now) in
                 let q = queryWith (at-start .args .rule) (at-start .args .weights) in
                 let fresh = met-told s q (at-start .args .work .now) v w tr tally₀ (at .tally-is) whole (at-start .args .d) small
-                ∙ lt-leb 1 (getD (at-start .args .tally .now) (getD (at-start .args .work .now) (at-start .args .d) 0 - 1) 0) (omega (arith, sym read ∙ else1 .if1 .left)) in
+                ∙ lt-leb 1 (getD (at-start .args .tally .now) (getD (at-start .args .work .now) (at-start .args .d) 0 - 1) 0)
+                (omega (arith, sym read ∙ else1 .if1 .left)) in
                 let score : after-bound .bound .result ≡ total s q (at-start .args .d) =
-                (rw (after-wide .wide .ensures) at (after-bound .bound .ensures)) ∙ score-is s q (at-start .args .work .now) v w (at-start .args .d) small in
-                meets-new s q (at-start .args .work .now) v w whole a i p (at-start .args .d) hi hp found small at (visited-d after-visit) (after-visit .visit .kept .1 .1 .1 .0) fresh
+                (rw (after-wide .wide .ensures) at (after-bound .bound .ensures))
+                ∙ score-is s q (at-start .args .work .now) v w (at-start .args .d) small in
+                meets-new s q (at-start .args .work .now) v w whole a i p (at-start .args .d) hi hp found small at (visited-d after-visit)
+                (after-visit .visit .kept .1 .1 .1 .0) fresh
                 (after-keep .keep .ensures .inserts (total s q) (take (at-start .args .k) (ranking s q tr)) picks₀ lows₀ (at .shortlist) score
                 (not-kept s q (at-start .args .work .now) v w whole a i p (at-start .args .d) hi hp found small (at-start .args .k) fresh));
           };

@@ -25,7 +25,9 @@ use Rattle.stepping.proofs.rows.round.Tie as tie
 abbrev Inv-loop : tie.InvT-loop
 Inv-loop m n rule weights k filled items scores picks₀ lows₀ tally₀ work kept₀ found₀ next₀ i₀ picks lows tally kept found next i =
     (i ≤ m) × (found ≤ i) × (length next ≡ 8)
-    × ((r : ℕ) → Standing (poses m n items scores) (queryWith rule weights) k (rounds (poses m n items scores) r) filled picks₀ lows₀ tally₀ work → Reached (poses m n items scores) (rounds (poses m n items scores) r) next₀ → RoundPart (poses m n items scores) (queryWith rule weights) k r i filled picks₀ lows₀ tally₀ kept picks lows tally next found)
+    × ((r : ℕ) → Standing (poses m n items scores) (queryWith rule weights) k (rounds (poses m n items scores) r) filled picks₀ lows₀ tally₀ work
+    → Reached (poses m n items scores) (rounds (poses m n items scores) r) next₀
+    → RoundPart (poses m n items scores) (queryWith rule weights) k r i filled picks₀ lows₀ tally₀ kept picks lows tally next found)
 
 abbrev μ-loop : tie.MeasureT-loop
 μ-loop m n rule weights k filled items scores picks₀ lows₀ tally₀ work kept₀ found₀ next₀ i₀ picks lows tally kept found next i = m - i
@@ -55,7 +57,15 @@ array-read-from c =
 
 -- where the slices stand, from the state that the contract asks
 part-of : (c : tie.In-loop Inv-loop μ-loop)
-    → RoundPart (lent (c .before .before .before .before .before .before .before .before)) (asked (c .before .before .before .before .before .before .before .before)) ((c .before .before .before .before .before .before .before .before) .args .k) ((c .before .before .before .before .before .before .before .before) .pre .done) ((c .before) .loop .i) ((c .before .before .before .before .before .before .before .before) .args .filled) ((c .before .before .before .before .before .before .before .before) .args .picks .now) ((c .before .before .before .before .before .before .before .before) .args .lows .now) ((c .before .before .before .before .before .before .before .before) .args .tally .now) ((c .before) .loop .kept) ((c .before) .loop .picks) ((c .before) .loop .lows) ((c .before) .loop .tally) ((c .before) .loop .next) ((c .before) .loop .found)
+    → RoundPart (lent (c .before .before .before .before .before .before .before .before))
+    (asked (c .before .before .before .before .before .before .before .before))
+    ((c .before .before .before .before .before .before .before .before) .args .k)
+    ((c .before .before .before .before .before .before .before .before) .pre .done) ((c .before) .loop .i)
+    ((c .before .before .before .before .before .before .before .before) .args .filled)
+    ((c .before .before .before .before .before .before .before .before) .args .picks .now)
+    ((c .before .before .before .before .before .before .before .before) .args .lows .now)
+    ((c .before .before .before .before .before .before .before .before) .args .tally .now) ((c .before) .loop .kept) ((c .before) .loop .picks)
+    ((c .before) .loop .lows) ((c .before) .loop .tally) ((c .before) .loop .next) ((c .before) .loop .found)
 part-of c =
     let at-loop = c .before in
     let at-start = c .before .before .before .before .before .before .before .before in
@@ -69,7 +79,9 @@ walk-on-requires c κs =
     let standing = at-start .pre .standing in
     let part = part-of in-turn in
     let i = at-loop .loop .i in
-    walkable-of (at-start .args .m) (at-start .args .n) (at-start .args .rule) (at-start .args .weights) (at-start .args .items .now) (at-start .args .scores .now) (at-start .args .work .now) (standing .readable) (state-now standing (part .goes)) i (getD (at-loop .loop .next) i 0) (in-turn .loop-test .taken) (standing .tally-long) (part .reached i (in-turn .loop-test .taken))
+    walkable-of (at-start .args .m) (at-start .args .n) (at-start .args .rule) (at-start .args .weights) (at-start .args .items .now)
+    (at-start .args .scores .now) (at-start .args .work .now) (standing .readable) (state-now standing (part .goes)) i
+    (getD (at-loop .loop .next) i 0) (in-turn .loop-test .taken) (standing .tally-long) (part .reached i (in-turn .loop-test .taken))
 
 mul-next : tie.Need-mul-next Inv-loop μ-loop
 mul-next c =
@@ -91,17 +103,44 @@ add-found c =
     let after-walk-on = c .before in
     let at-start = c .before .before .before .before .before .before .before .before .before .before .before in
     let at-loop = c .before .before .before .before in
-    omega (arith, c .looked .ensures, once-most (after-walk-on .walk-on .result) (at-start .args .n), at-loop .loop .inv .0, at-loop .loop .inv .1, at-start .pre .standing .readable .lists-valid .size .m-most)
+    omega (
+      arith,
+      c .looked .ensures,
+      once-most (after-walk-on .walk-on .result) (at-start .args .n),
+      at-loop .loop .inv .0,
+      at-loop .loop .inv .1,
+      at-start .pre .standing .readable .lists-valid .size .m-most,
+    )
 
 -- the position that was walked to is the list's best, after any number of rounds at which the slices stand
 best-of : (c : tie.After-walk-on Inv-loop μ-loop) (r : ℕ)
-    → Standing (lent (c .before .before .before .before .before .before .before .before .before .before)) (asked (c .before .before .before .before .before .before .before .before .before .before)) ((c .before .before .before .before .before .before .before .before .before .before) .args .k) (rounds (lent (c .before .before .before .before .before .before .before .before .before .before)) r) ((c .before .before .before .before .before .before .before .before .before .before) .args .filled) ((c .before .before .before .before .before .before .before .before .before .before) .args .picks .now) ((c .before .before .before .before .before .before .before .before .before .before) .args .lows .now) ((c .before .before .before .before .before .before .before .before .before .before) .args .tally .now) ((c .before .before .before .before .before .before .before .before .before .before) .args .work .now)
-    → Reached (lent (c .before .before .before .before .before .before .before .before .before .before)) (rounds (lent (c .before .before .before .before .before .before .before .before .before .before)) r) ((c .before .before .before .before .before .before .before .before .before .before) .args .best)
-    → c .walk-on .result ≡ best (lent (c .before .before .before .before .before .before .before .before .before .before)) (round (lent (c .before .before .before .before .before .before .before .before .before .before)) (rounds (lent (c .before .before .before .before .before .before .before .before .before .before)) r) ((c .before .before .before) .loop .i)) ((c .before .before .before) .loop .i)
+    → Standing (lent (c .before .before .before .before .before .before .before .before .before .before))
+    (asked (c .before .before .before .before .before .before .before .before .before .before))
+    ((c .before .before .before .before .before .before .before .before .before .before) .args .k)
+    (rounds (lent (c .before .before .before .before .before .before .before .before .before .before)) r)
+    ((c .before .before .before .before .before .before .before .before .before .before) .args .filled)
+    ((c .before .before .before .before .before .before .before .before .before .before) .args .picks .now)
+    ((c .before .before .before .before .before .before .before .before .before .before) .args .lows .now)
+    ((c .before .before .before .before .before .before .before .before .before .before) .args .tally .now)
+    ((c .before .before .before .before .before .before .before .before .before .before) .args .work .now)
+    → Reached (lent (c .before .before .before .before .before .before .before .before .before .before))
+    (rounds (lent (c .before .before .before .before .before .before .before .before .before .before)) r)
+    ((c .before .before .before .before .before .before .before .before .before .before) .args .best)
+    → c .walk-on .result ≡ best (lent (c .before .before .before .before .before .before .before .before .before .before))
+    (round (lent (c .before .before .before .before .before .before .before .before .before .before))
+    (rounds (lent (c .before .before .before .before .before .before .before .before .before .before)) r) ((c .before .before .before) .loop .i))
+    ((c .before .before .before) .loop .i)
 best-of c r standing reached =
     let part = (c .before .before .before) .loop .inv .3 r standing reached in
     c .walk-on .ensures
-    ∙ walked-best ((c .before .before .before .before .before .before .before .before .before .before) .args .m) ((c .before .before .before .before .before .before .before .before .before .before) .args .n) ((c .before .before .before .before .before .before .before .before .before .before) .args .rule) ((c .before .before .before .before .before .before .before .before .before .before) .args .weights) ((c .before .before .before .before .before .before .before .before .before .before) .args .items .now) ((c .before .before .before .before .before .before .before .before .before .before) .args .scores .now) ((c .before .before .before .before .before .before .before .before .before .before) .args .work .now) (standing .readable) (state-now standing (part .goes)) ((c .before .before .before) .loop .i) ((c .before .before) .loop-test .taken)
+    ∙ walked-best ((c .before .before .before .before .before .before .before .before .before .before) .args .m)
+    ((c .before .before .before .before .before .before .before .before .before .before) .args .n)
+    ((c .before .before .before .before .before .before .before .before .before .before) .args .rule)
+    ((c .before .before .before .before .before .before .before .before .before .before) .args .weights)
+    ((c .before .before .before .before .before .before .before .before .before .before) .args .items .now)
+    ((c .before .before .before .before .before .before .before .before .before .before) .args .scores .now)
+    ((c .before .before .before .before .before .before .before .before .before .before) .args .work .now) (standing .readable)
+    (state-now standing (part .goes)) ((c .before .before .before) .loop .i) ((c .before .before) .loop-test .taken)
 
 look-requires : tie.Need-look-requires Inv-loop μ-loop
 look-requires c κs =
@@ -118,12 +157,19 @@ look-requires c κs =
     record {
       list-within = in-turn .loop-test .taken;
       at-most =
-          omega
-          (arith, at-best, part-of in-turn .reached i (in-turn .loop-test .taken), best-most (lent at-start) (round (lent at-start) (rounds (lent at-start) r) i) i);
+          omega (
+            arith,
+            at-best,
+            part-of in-turn .reached i (in-turn .loop-test .taken),
+            best-most (lent at-start)
+                (round (lent at-start) (rounds (lent at-start) r) i) i,
+          );
       items-long = v .items-long;
       meeting = λ hb.
-          meeting-of (at-start .args .m) (at-start .args .n) (at-start .args .rule) (at-start .args .weights) (at-start .args .items .now) (at-start .args .scores .now) (at-start .args .work .now)
-          (standing .readable) (standing .keeps) (standing .tally-long) (state-now standing (part-of in-turn .goes)) (item (lent at-start) i b) (v .is-item i b (in-turn .loop-test .taken) hb)
+          meeting-of (at-start .args .m) (at-start .args .n) (at-start .args .rule) (at-start .args .weights) (at-start .args .items .now)
+          (at-start .args .scores .now) (at-start .args .work .now)
+          (standing .readable) (standing .keeps) (standing .tally-long) (state-now standing (part-of in-turn .goes)) (item (lent at-start) i b)
+          (v .is-item i b (in-turn .loop-test .taken) hb)
           (λ j hj. part-count (lent at-start) v r i b j (in-turn .loop-test .taken) at-best hb hj);
     }
 
@@ -157,13 +203,24 @@ loop-again c =
       λ r standing reached.
           let at-best = best-of after-walk-on r standing reached in
           rw count
-          (part-more (at-loop .loop .inv .3 r standing reached) b (in-turn .loop-test .taken) (omega (arith, at-loop .loop .inv .2, in-turn .loop-test .taken, v .size .m-most)) at-best
-          (after-look .look .ensures .turns (round s (rounds s r) i) (standing .readable .lists-valid) (standing .readable .work-placed) (part-whole s (standing .readable .lists-valid) r i (at-loop .loop .inv .0)) at-best)),
+          (part-more (at-loop .loop .inv .3 r standing reached) b (in-turn .loop-test .taken)
+          (omega (arith, at-loop .loop .inv .2, in-turn .loop-test .taken, v .size .m-most)) at-best
+          (after-look .look .ensures .turns (round s (rounds s r) i) (standing .readable .lists-valid) (standing .readable .work-placed)
+          (part-whole s (standing .readable .lists-valid) r i (at-loop .loop .inv .0)) at-best)),
     )
 
 -- the slices keep their lengths
 now-at : (c : tie.After-loop Inv-loop μ-loop)
-    → State (lent (c .before .before .before .before .before .before .before .before)) (asked (c .before .before .before .before .before .before .before .before)) ((c .before .before .before .before .before .before .before .before) .args .k) (round (lent (c .before .before .before .before .before .before .before .before)) (rounds (lent (c .before .before .before .before .before .before .before .before)) ((c .before .before .before .before .before .before .before .before) .pre .done)) ((c .before) .loop .i)) ((c .before .before .before .before .before .before .before .before) .args .picks .now) ((c .before .before .before .before .before .before .before .before) .args .lows .now) ((c .before .before .before .before .before .before .before .before) .args .tally .now) ((c .before) .loop .kept) ((c .before) .loop .picks) ((c .before) .loop .lows) ((c .before) .loop .tally)
+    → State (lent (c .before .before .before .before .before .before .before .before))
+    (asked (c .before .before .before .before .before .before .before .before))
+    ((c .before .before .before .before .before .before .before .before) .args .k)
+    (round (lent (c .before .before .before .before .before .before .before .before))
+    (rounds (lent (c .before .before .before .before .before .before .before .before))
+    ((c .before .before .before .before .before .before .before .before) .pre .done)) ((c .before) .loop .i))
+    ((c .before .before .before .before .before .before .before .before) .args .picks .now)
+    ((c .before .before .before .before .before .before .before .before) .args .lows .now)
+    ((c .before .before .before .before .before .before .before .before) .args .tally .now) ((c .before) .loop .kept) ((c .before) .loop .picks)
+    ((c .before) .loop .lows) ((c .before) .loop .tally)
 now-at c =
     let at-start = c .before .before .before .before .before .before .before .before in
     let at-loop = c .before in

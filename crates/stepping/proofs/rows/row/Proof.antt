@@ -21,7 +21,8 @@ use Rattle.stepping.proofs.rows.row.Tie as tie
 
 abbrev Inv-loop : tie.InvT-loop
 Inv-loop p m n rule weights k filled items scores picks₀ lows₀ tally₀ work kept₀ i₀ picks lows tally kept i =
-    (i ≤ m) × Goes (poses m n items scores) (queryWith rule weights) k (rowsTA (poses m n items scores) p) (rowsTA (poses m n items scores) p ++ rowTA (poses m n items scores) p i) filled picks₀ lows₀ tally₀ kept picks lows tally
+    (i ≤ m) × Goes (poses m n items scores) (queryWith rule weights) k (rowsTA (poses m n items scores) p)
+    (rowsTA (poses m n items scores) p ++ rowTA (poses m n items scores) p i) filled picks₀ lows₀ tally₀ kept picks lows tally
 
 abbrev μ-loop : tie.MeasureT-loop
 μ-loop p m n rule weights k filled items scores picks₀ lows₀ tally₀ work kept₀ i₀ picks lows tally kept i = m - i
@@ -36,7 +37,9 @@ record Here (i p n items : ℕ) : Type 0 where
   entry-in : i * n + p < items
 
 here : (c : tie.In-loop Inv-loop μ-loop)
-    → Here (c .before .loop .i) ((c .before .before .before .before .before .before .before .before) .args .p) ((c .before .before .before .before .before .before .before .before) .args .n) (length ((c .before .before .before .before .before .before .before .before) .args .items .now))
+    → Here (c .before .loop .i) ((c .before .before .before .before .before .before .before .before) .args .p)
+    ((c .before .before .before .before .before .before .before .before) .args .n)
+    (length ((c .before .before .before .before .before .before .before .before) .args .items .now))
 here c =
     let at-start = c .before .before .before .before .before .before .before .before in
     let room = table-room (c .before .loop .i) (at-start .args .m) (at-start .args .n) (c .loop-test .taken) in
@@ -80,7 +83,8 @@ meet-requires c κs =
     let standing = at-start .pre .0 in
     let v = standing .readable .lists-valid in
     let i = at-loop .loop .i in
-    meeting-of (at-start .args .m) (at-start .args .n) (at-start .args .rule) (at-start .args .weights) (at-start .args .items .now) (at-start .args .scores .now) (at-start .args .work .now)
+    meeting-of (at-start .args .m) (at-start .args .n) (at-start .args .rule) (at-start .args .weights) (at-start .args .items .now)
+    (at-start .args .scores .now) (at-start .args .work .now)
     (standing .readable) (standing .keeps) (standing .tally-long) (state-now standing (at-loop .loop .inv .1)) _
     (v .is-item i _ (in-turn .loop-test .taken) (omega (arith, at-start .pre .1)))
     (λ j hj.
@@ -112,12 +116,28 @@ loop-again c =
     let p = at-start .args .p in
     let before = rowsTA s p ++ rowTA s p i in
     let whole = looked-whole s v (row-looked s p i (at-start .pre .1) (at-loop .loop .inv .0) (rows-looked s p (omega (arith, at-start .pre .1)))) in
-    let more = after-meet .meet .ensures .looks-up (at-start .args .items .now) before sorted i p v (standing .readable .work-placed) whole (in-turn .loop-test .taken) (at-start .pre .1) refl in
-    (omega (arith, in-turn .loop-test .taken), rw (add-one i) (goes-to (append-assoc (rowsTA s p) (rowTA s p i) (lookup s sorted i p)) (goes-on (at-loop .loop .inv .1) more)))
+    let more =
+    after-meet .meet .ensures .looks-up (at-start .args .items .now) before sorted i p v (standing .readable .work-placed) whole
+    (in-turn .loop-test .taken) (at-start .pre .1) refl in (
+      omega (arith, in-turn .loop-test .taken),
+      rw (add-one i)
+          (goes-to (append-assoc (rowsTA s p) (rowTA s p i) (lookup s sorted i p)) (goes-on (at-loop .loop .inv .1) more)),
+    )
 
 -- the slices keep their lengths
 now-at : (c : tie.After-loop Inv-loop μ-loop)
-    → State (lent (c .before .before .before .before .before .before .before .before)) (queryWith ((c .before .before .before .before .before .before .before .before) .args .rule) ((c .before .before .before .before .before .before .before .before) .args .weights)) ((c .before .before .before .before .before .before .before .before) .args .k) (rowsTA (lent (c .before .before .before .before .before .before .before .before)) ((c .before .before .before .before .before .before .before .before) .args .p) ++ rowTA (lent (c .before .before .before .before .before .before .before .before)) ((c .before .before .before .before .before .before .before .before) .args .p) ((c .before) .loop .i)) ((c .before .before .before .before .before .before .before .before) .args .picks .now) ((c .before .before .before .before .before .before .before .before) .args .lows .now) ((c .before .before .before .before .before .before .before .before) .args .tally .now) ((c .before) .loop .kept) ((c .before) .loop .picks) ((c .before) .loop .lows) ((c .before) .loop .tally)
+    → State (lent (c .before .before .before .before .before .before .before .before))
+    (queryWith ((c .before .before .before .before .before .before .before .before) .args .rule)
+    ((c .before .before .before .before .before .before .before .before) .args .weights))
+    ((c .before .before .before .before .before .before .before .before) .args .k)
+    (rowsTA (lent (c .before .before .before .before .before .before .before .before))
+    ((c .before .before .before .before .before .before .before .before) .args .p) ++ rowTA
+    (lent (c .before .before .before .before .before .before .before .before))
+    ((c .before .before .before .before .before .before .before .before) .args .p) ((c .before) .loop .i))
+    ((c .before .before .before .before .before .before .before .before) .args .picks .now)
+    ((c .before .before .before .before .before .before .before .before) .args .lows .now)
+    ((c .before .before .before .before .before .before .before .before) .args .tally .now) ((c .before) .loop .kept) ((c .before) .loop .picks)
+    ((c .before) .loop .lows) ((c .before) .loop .tally)
 now-at c =
     let at-start = c .before .before .before .before .before .before .before .before in
     let at-loop = c .before in
@@ -138,7 +158,8 @@ returns c =
     let at-loop = c .before in
     let at-start = c .before .before .before .before .before .before .before .before in
     let whole : at-loop .loop .i ≡ at-start .args .m = omega (arith, at-loop .loop .inv .0) in
-    rw (add-one (at-start .args .p)) (goes-to (ap (λ (i : ℕ). rowsTA (lent at-start) (at-start .args .p) ++ rowTA (lent at-start) (at-start .args .p) i) whole) (at-loop .loop .inv .1))
+    rw (add-one (at-start .args .p)) (goes-to (ap
+    (λ (i : ℕ). rowsTA (lent at-start) (at-start .args .p) ++ rowTA (lent at-start) (at-start .args .p) i) whole) (at-loop .loop .inv .1))
 
 pub row-spec : {M : Type 1} → statement M
 row-spec =

@@ -31,8 +31,12 @@ loop-less c = omega arith
 loop-again : tie.Need-loop-again Inv-loop μ-loop
 loop-again c =
     let at-loop = c .before in
-    let at-start = c .before .before in
-    (omega arith, simp length-set (at-loop .loop .inv .1), rw (at-loop .loop .inv .2) (fill-more (at-loop .loop .i) 0 (at-start .args .tally .now) (omega arith)))
+    let at-start = c .before .before in (
+      omega arith,
+      simp length-set (at-loop .loop .inv .1),
+      rw (at-loop .loop .inv .2)
+          (fill-more (at-loop .loop .i) 0 (at-start .args .tally .now) (omega arith)),
+    )
 
 same-length : tie.Need-same-length Inv-loop μ-loop
 same-length c =

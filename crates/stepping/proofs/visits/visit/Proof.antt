@@ -27,7 +27,10 @@ record Here (i n d place tally work : ℕ) : Type 0 where
   place-most : place ≤ n
 
 here : (c : tie.In-loop Inv-loop μ-loop)
-    → Here (c .before .loop .i) ((c .before .before .before .before) .args .n) ((c .before .before .before .before) .args .d) (getD ((c .before .before .before .before) .args .work .now) (c .before .loop .i * (c .before .before .before .before) .args .n + (c .before .before .before .before) .args .d) 0) (length (c .before .loop .tally)) (length ((c .before .before .before .before) .args .work .now))
+    → Here (c .before .loop .i) ((c .before .before .before .before) .args .n) ((c .before .before .before .before) .args .d)
+    (getD ((c .before .before .before .before) .args .work .now)
+    (c .before .loop .i * (c .before .before .before .before) .args .n + (c .before .before .before .before) .args .d) 0)
+    (length (c .before .loop .tally)) (length ((c .before .before .before .before) .args .work .now))
 here c =
     let at-start = c .before .before .before .before in
     let i = c .before .loop .i in
@@ -43,8 +46,12 @@ here c =
 
 loop-holds : tie.Need-loop-holds Inv-loop μ-loop
 loop-holds c =
-    let at-start = c .before .before in
-    (omega arith, refl, visiting-starts (at-start .args .d) (at-start .args .m) (at-start .args .n) (at-start .args .work .now) (at-start .args .tally .now) (at-start .pre .tally-long))
+    let at-start = c .before .before in (
+      omega arith,
+      refl,
+      visiting-starts (at-start .args .d) (at-start .args .m) (at-start .args .n) (at-start .args .work .now)
+          (at-start .args .tally .now) (at-start .pre .tally-long),
+    )
 
 mul-base : tie.Need-mul-base Inv-loop μ-loop
 mul-base c =
@@ -90,7 +97,11 @@ slice-read-tally c =
 
 -- the place that is visited, as the definition has it
 seen-is : (c : tie.After-wide Inv-loop μ-loop)
-    → (c .before .before .before) .loop .i * (c .before .before .before .before .before .before) .args .n + c .wide .result - 1 ≡ (c .before .before .before) .loop .i * (c .before .before .before .before .before .before) .args .n + (getD ((c .before .before .before .before .before .before) .args .work .now) ((c .before .before .before) .loop .i * (c .before .before .before .before .before .before) .args .n + (c .before .before .before .before .before .before) .args .d) 0 - 1)
+    → (c .before .before .before) .loop .i * (c .before .before .before .before .before .before) .args .n + c .wide .result - 1 ≡
+    (c .before .before .before) .loop .i * (c .before .before .before .before .before .before) .args .n +
+    (getD ((c .before .before .before .before .before .before) .args .work .now)
+    ((c .before .before .before) .loop .i * (c .before .before .before .before .before .before) .args .n +
+    (c .before .before .before .before .before .before) .args .d) 0 - 1)
 seen-is c =
     let in-turn = c .before .before in
     omega (arith, here in-turn, c .wide .ensures)
@@ -103,7 +114,9 @@ add-tally c =
     let after-wide = c .before in
     let place = getD (at-start .args .work .now) (at-loop .loop .i * at-start .args .n + at-start .args .d) 0 in
     let inside : place - 1 < at-start .args .n = omega (arith, here in-turn) in
-    let old = count-before (at-start .args .d) (at-start .args .m) (at-start .args .n) (at-start .args .work .now) (at-start .args .tally .now) (at-loop .loop .i) (place - 1) (in-turn .loop-test .taken) inside in
+    let old =
+    count-before (at-start .args .d) (at-start .args .m) (at-start .args .n) (at-start .args .work .now) (at-start .args .tally .now)
+    (at-loop .loop .i) (place - 1) (in-turn .loop-test .taken) inside in
     rw (seen-is after-wide, at-loop .loop .inv .2, old) (omega (arith, at-start .pre .count-small (at-loop .loop .i) (in-turn .loop-test .taken)))
 
 slice-write-tally : tie.Need-slice-write-tally Inv-loop μ-loop
@@ -134,7 +147,8 @@ loop-again c =
       omega (arith, in-turn .loop-test .taken),
       simp length-set (at-loop .loop .inv .1),
       rw (seen-is after-wide, at-loop .loop .inv .2)
-          (visiting-goes-on (at-start .args .d) (at-start .args .m) (at-start .args .n) (at-start .args .work .now) (at-start .args .tally .now) (at-loop .loop .i) (place - 1) (in-turn .loop-test .taken) inside refl),
+          (visiting-goes-on (at-start .args .d) (at-start .args .m) (at-start .args .n) (at-start .args .work .now) (at-start .args .tally .now)
+          (at-loop .loop .i) (place - 1) (in-turn .loop-test .taken) inside refl),
     )
 
 same-length : tie.Need-same-length Inv-loop μ-loop
@@ -148,7 +162,8 @@ returns c =
     let at-loop = c .before in
     let at-start = c .before .before .before .before in
     let whole : at-loop .loop .i ≡ at-start .args .m = omega (arith, at-loop .loop .inv .0) in
-    at-loop .loop .inv .2 ∙ ap (visitedIn (at-start .args .d) (at-start .args .m) (at-start .args .n) (at-start .args .work .now) (at-start .args .tally .now)) whole
+    at-loop .loop .inv .2 ∙ ap (visitedIn (at-start .args .d) (at-start .args .m) (at-start .args .n) (at-start .args .work .now)
+    (at-start .args .tally .now)) whole
 
 pub visit-spec : {M : Type 1} → statement M
 visit-spec =

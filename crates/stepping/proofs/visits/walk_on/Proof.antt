@@ -42,7 +42,8 @@ returns : tie.Need-returns Inv-loop μ-loop
 returns c =
     let at-start = c .before .before .before .before in
     let at-loop = c .before .before .before in
-    walked-is (at-start .args .i) (at-start .args .n) (at-loop .loop .b) (at-start .args .tally .now) (at-loop .loop .inv .0) (at-loop .loop .inv .1) (λ _. c .if1 .taken)
+    walked-is (at-start .args .i) (at-start .args .n) (at-loop .loop .b) (at-start .args .tally .now) (at-loop .loop .inv .0) (at-loop .loop .inv .1)
+    (λ _. c .if1 .taken)
 
 add-b : tie.Need-add-b Inv-loop μ-loop
 add-b c =
@@ -59,14 +60,19 @@ loop-again : tie.Need-loop-again Inv-loop μ-loop
 loop-again c =
     let in-turn = c .before .before in
     let at-start = c .before .before .before .before in
-    let at-loop = c .before .before .before in
-    (omega (arith, in-turn .loop-test .taken), below-more (λ p. getD (at-start .args .tally .now) (at-start .args .i * at-start .args .n + p) 0 ≡ 0 → ⊥) (at-loop .loop .b) (at-loop .loop .inv .1) (c .if1 .left))
+    let at-loop = c .before .before .before in (
+      omega (arith, in-turn .loop-test .taken),
+      below-more
+          (λ p. getD (at-start .args .tally .now) (at-start .args .i * at-start .args .n + p) 0 ≡ 0 → ⊥) (at-loop .loop .b) (at-loop .loop .inv .1)
+          (c .if1 .left),
+    )
 
 returns-2 : tie.Need-returns-2 Inv-loop μ-loop
 returns-2 c =
     let at-start = c .before .before in
     let at-loop = c .before in
-    walked-is (at-start .args .i) (at-start .args .n) (at-loop .loop .b) (at-start .args .tally .now) (at-loop .loop .inv .0) (at-loop .loop .inv .1) (λ h. absurd (omega (arith, c .loop-test .left)))
+    walked-is (at-start .args .i) (at-start .args .n) (at-loop .loop .b) (at-start .args .tally .now) (at-loop .loop .inv .0) (at-loop .loop .inv .1)
+    (λ h. absurd (omega (arith, c .loop-test .left)))
 
 pub walk-on-spec : {M : Type 1} → statement M
 walk-on-spec =
