@@ -99,7 +99,8 @@ fn shape(
     tally: usize,
     work: usize,
 ) -> u32
-    ensures { λ r. ⌜ r ≡ told (shapeOf m n rule k (now (weights .entry)) items scores picks lows highs tally work) .number ⌝ }
+    ensures { λ r. ⌜ r ≡ told (shapeOf m n rule k (now (weights .entry)) items scores picks lows highs tally
+        work) .number ⌝ }
 {
     if lists::wrong_size(m, n) {
         return 1;
@@ -141,7 +142,8 @@ pub fn admit(
     tally: usize,
     work: &mut [u16],
 ) -> Checked
-    ensures { λ r. ⌜ Admitted m n rule k (now (weights .entry)) (now (items .entry)) (now (scores .entry)) picks lows highs tally (now (work .entry)) r (now (work .exit)) ⌝ }
+    ensures { λ r. ⌜ Admitted m n rule k (now (weights .entry)) (now (items .entry)) (now (scores .entry))
+        picks lows highs tally (now (work .entry)) r (now (work .exit)) ⌝ }
 {
     let number = shape(
         m,

@@ -41,8 +41,12 @@ fn consider(
     lows: &mut [u32],
     highs: &mut [u32],
 ) -> usize
-    requires { ⌜ Legible (view m n rule weights (now scores) (now work)) p × Marked (view m n rule weights (now scores) (now work)) p (now marks) × (d < n) × Keeps k filled (now picks) (now lows) (now highs) ⌝ }
-    ensures { λ r. ⌜ Considered (view m n rule weights (now (scores .entry)) (now (work .entry))) k p (top - 1) d filled (now (picks .entry)) (now (lows .entry)) (now (highs .entry)) r (now (picks .exit)) (now (lows .exit)) (now (highs .exit)) ⌝ }
+    requires { ⌜ Legible (view m n rule weights (now scores) (now work)) p
+        × Marked (view m n rule weights (now scores) (now work)) p (now marks) × (d < n)
+        × Keeps k filled (now picks) (now lows) (now highs) ⌝ }
+    ensures { λ r. ⌜ Considered (view m n rule weights (now (scores .entry)) (now (work .entry))) k p
+        (top - 1) d filled (now (picks .entry)) (now (lows .entry)) (now (highs .entry)) r (now (picks .exit))
+        (now (lows .exit)) (now (highs .exit)) ⌝ }
 {
     let own = marks[d];
     if own < top {
@@ -72,8 +76,12 @@ fn rank(
     lows: &mut [u32],
     highs: &mut [u32],
 ) -> usize
-    requires { ⌜ Legible (view m n rule weights (now scores) (now work)) p × Marked (view m n rule weights (now scores) (now work)) p (now marks) × Kth n k (now marks) top × Spaced k (now picks) (now lows) (now highs) ⌝ }
-    ensures { λ r. ⌜ Listed (view m n rule weights (now (scores .entry)) (now (work .entry))) k p n (now (picks .entry)) (now (lows .entry)) (now (highs .entry)) r (now (picks .exit)) (now (lows .exit)) (now (highs .exit)) ⌝ }
+    requires { ⌜ Legible (view m n rule weights (now scores) (now work)) p
+        × Marked (view m n rule weights (now scores) (now work)) p (now marks) × Kth n k (now marks) top
+        × Spaced k (now picks) (now lows) (now highs) ⌝ }
+    ensures { λ r. ⌜ Listed (view m n rule weights (now (scores .entry)) (now (work .entry))) k p n
+        (now (picks .entry)) (now (lows .entry)) (now (highs .entry)) r (now (picks .exit)) (now (lows .exit))
+        (now (highs .exit)) ⌝ }
 {
     let mut filled = 0;
     let mut d = 0;
@@ -116,8 +124,11 @@ pub fn run_nra(
     tally: &mut [u8],
     work: &[u16],
 ) -> u32
-    requires { ⌜ Readable (poses m n (now items) (now scores)) (queryWith rule weights) (now work) × Room (poses m n (now items) (now scores)) k (now picks) (now lows) (now highs) (now tally) ⌝ }
-    ensures { λ r. ⌜ Finished (poses m n (now (items .entry)) (now (scores .entry))) (queryWith rule weights) k r (now (picks .entry)) (now (lows .entry)) (now (highs .entry)) (now (tally .entry)) (now (picks .exit)) (now (lows .exit)) (now (highs .exit)) (now (tally .exit)) ⌝ }
+    requires { ⌜ Readable (poses m n (now items) (now scores)) (queryWith rule weights) (now work)
+        × Room (poses m n (now items) (now scores)) k (now picks) (now lows) (now highs) (now tally) ⌝ }
+    ensures { λ r. ⌜ Finished (poses m n (now (items .entry)) (now (scores .entry))) (queryWith rule weights)
+        k r (now (picks .entry)) (now (lows .entry)) (now (highs .entry)) (now (tally .entry))
+        (now (picks .exit)) (now (lows .exit)) (now (highs .exit)) (now (tally .exit)) ⌝ }
 {
     let mut marks: [u32; 1024] = [0; 1024];
     let mut tops: [u32; 1024] = [0; 1024];

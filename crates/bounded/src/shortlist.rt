@@ -15,7 +15,8 @@ pub fn keep(
     highs: &mut [u32],
 ) -> usize
     requires { ⌜ Keeps k filled (now picks) (now lows) (now highs) ⌝ }
-    ensures { λ r. ⌜ Inserted d low high k filled (now (picks .entry)) (now (lows .entry)) (now (highs .entry)) r (now (picks .exit)) (now (lows .exit)) (now (highs .exit)) ⌝ }
+    ensures { λ r. ⌜ Inserted d low high k filled (now (picks .entry)) (now (lows .entry))
+        (now (highs .entry)) r (now (picks .exit)) (now (lows .exit)) (now (highs .exit)) ⌝ }
 {
     let at = seats::seat(d, low, high, filled, picks, lows, highs);
     if at == k {

@@ -41,7 +41,10 @@ fn searched(
     work: &mut [u16],
     told: &mut [u32; 7],
 ) -> u32
-    ensures { λ r. ⌜ SearchTold (searchAt which) (lentWith m n rule k (now (weights .entry)) (now (items .entry)) (now (scores .entry)) (now (picks .entry)) (now (lows .entry)) (now (highs .entry)) (now (tally .entry)) (now (work .entry))) r (now (told .exit)) (now (picks .exit)) (now (lows .exit)) (now (highs .exit)) (now (tally .exit)) (now (work .exit)) ⌝ }
+    ensures { λ r. ⌜ SearchTold (searchAt which) (lentWith m n rule k (now (weights .entry))
+        (now (items .entry)) (now (scores .entry)) (now (picks .entry)) (now (lows .entry))
+        (now (highs .entry)) (now (tally .entry)) (now (work .entry))) r (now (told .exit))
+        (now (picks .exit)) (now (lows .exit)) (now (highs .exit)) (now (tally .exit)) (now (work .exit)) ⌝ }
 {
     let answer = searches::search(
         which,
@@ -78,7 +81,10 @@ pub extern "C" fn rutlark_ta(
     work: &mut [u16],
     told: &mut [u32; 7],
 ) -> u32
-    ensures { λ r. ⌜ SearchTold TA (lentWith m n rule k (now (weights .entry)) (now (items .entry)) (now (scores .entry)) (now (picks .entry)) (now (lows .entry)) (now (highs .entry)) (now (tally .entry)) (now (work .entry))) r (now (told .exit)) (now (picks .exit)) (now (lows .exit)) (now (highs .exit)) (now (tally .exit)) (now (work .exit)) ⌝ }
+    ensures { λ r. ⌜ SearchTold TA (lentWith m n rule k (now (weights .entry)) (now (items .entry))
+        (now (scores .entry)) (now (picks .entry)) (now (lows .entry)) (now (highs .entry))
+        (now (tally .entry)) (now (work .entry))) r (now (told .exit)) (now (picks .exit)) (now (lows .exit))
+        (now (highs .exit)) (now (tally .exit)) (now (work .exit)) ⌝ }
 {
     searched(
         running::TA,
@@ -115,7 +121,10 @@ pub extern "C" fn rutlark_bpa(
     work: &mut [u16],
     told: &mut [u32; 7],
 ) -> u32
-    ensures { λ r. ⌜ SearchTold BPA (lentWith m n rule k (now (weights .entry)) (now (items .entry)) (now (scores .entry)) (now (picks .entry)) (now (lows .entry)) (now (highs .entry)) (now (tally .entry)) (now (work .entry))) r (now (told .exit)) (now (picks .exit)) (now (lows .exit)) (now (highs .exit)) (now (tally .exit)) (now (work .exit)) ⌝ }
+    ensures { λ r. ⌜ SearchTold BPA (lentWith m n rule k (now (weights .entry)) (now (items .entry))
+        (now (scores .entry)) (now (picks .entry)) (now (lows .entry)) (now (highs .entry))
+        (now (tally .entry)) (now (work .entry))) r (now (told .exit)) (now (picks .exit)) (now (lows .exit))
+        (now (highs .exit)) (now (tally .exit)) (now (work .exit)) ⌝ }
 {
     searched(
         running::BPA,
@@ -152,7 +161,10 @@ pub extern "C" fn rutlark_bpa2(
     work: &mut [u16],
     told: &mut [u32; 7],
 ) -> u32
-    ensures { λ r. ⌜ SearchTold BPA2 (lentWith m n rule k (now (weights .entry)) (now (items .entry)) (now (scores .entry)) (now (picks .entry)) (now (lows .entry)) (now (highs .entry)) (now (tally .entry)) (now (work .entry))) r (now (told .exit)) (now (picks .exit)) (now (lows .exit)) (now (highs .exit)) (now (tally .exit)) (now (work .exit)) ⌝ }
+    ensures { λ r. ⌜ SearchTold BPA2 (lentWith m n rule k (now (weights .entry)) (now (items .entry))
+        (now (scores .entry)) (now (picks .entry)) (now (lows .entry)) (now (highs .entry))
+        (now (tally .entry)) (now (work .entry))) r (now (told .exit)) (now (picks .exit)) (now (lows .exit))
+        (now (highs .exit)) (now (tally .exit)) (now (work .exit)) ⌝ }
 {
     searched(
         running::BPA2,
@@ -189,7 +201,10 @@ pub extern "C" fn rutlark_nra(
     work: &mut [u16],
     told: &mut [u32; 7],
 ) -> u32
-    ensures { λ r. ⌜ SearchTold NRA (lentWith m n rule k (now (weights .entry)) (now (items .entry)) (now (scores .entry)) (now (picks .entry)) (now (lows .entry)) (now (highs .entry)) (now (tally .entry)) (now (work .entry))) r (now (told .exit)) (now (picks .exit)) (now (lows .exit)) (now (highs .exit)) (now (tally .exit)) (now (work .exit)) ⌝ }
+    ensures { λ r. ⌜ SearchTold NRA (lentWith m n rule k (now (weights .entry)) (now (items .entry))
+        (now (scores .entry)) (now (picks .entry)) (now (lows .entry)) (now (highs .entry))
+        (now (tally .entry)) (now (work .entry))) r (now (told .exit)) (now (picks .exit)) (now (lows .exit))
+        (now (highs .exit)) (now (tally .exit)) (now (work .exit)) ⌝ }
 {
     searched(
         running::NRA,
@@ -219,7 +234,8 @@ pub extern "C" fn rutlark_check_lists(
     work: &mut [u16],
     told: &mut [u32; 3],
 ) -> u32
-    ensures { λ r. ⌜ CheckTold (poses m n (now (items .entry)) (now (scores .entry))) (now (work .entry)) r (now (told .exit)) (now (work .exit)) ⌝ }
+    ensures { λ r. ⌜ CheckTold (poses m n (now (items .entry)) (now (scores .entry))) (now (work .entry)) r
+        (now (told .exit)) (now (work .exit)) ⌝ }
 {
     let found = lists::check_lists(m, n, items, scores, work);
     *told = [found.number, found.list, found.position];
@@ -244,7 +260,8 @@ pub extern "C" fn rutlark_read_lists(
     scores: &mut [u16],
     told: &mut [usize; 3],
 ) -> u32
-    ensures { λ r. ⌜ ListsTold (now (bytes .entry)) (now (items .entry)) (now (scores .entry)) r (now (told .exit)) (now (items .exit)) (now (scores .exit)) ⌝ }
+    ensures { λ r. ⌜ ListsTold (now (bytes .entry)) (now (items .entry)) (now (scores .entry)) r
+        (now (told .exit)) (now (items .exit)) (now (scores .exit)) ⌝ }
 {
     let read = records::read_lists(bytes, items, scores);
     *told = [read.number as usize, read.m, read.n];

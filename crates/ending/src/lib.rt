@@ -24,7 +24,9 @@ fn obstacle(
     work: &[u16],
     marks: &[u32],
 ) -> usize
-    requires { ⌜ Legible (view m n rule weights (now scores) (now work)) p × Marked (view m n rule weights (now scores) (now work)) p (now marks) × (1 ≤ k) × Kth n k (now marks) top × (at < n) ⌝ }
+    requires { ⌜ Legible (view m n rule weights (now scores) (now work)) p
+        × Marked (view m n rule weights (now scores) (now work)) p (now marks) × (1 ≤ k)
+        × Kth n k (now marks) top × (at < n) ⌝ }
     ensures { λ r. ⌜ Obstructed (view m n rule weights (now (scores .entry)) (now (work .entry))) k p r ⌝ }
 {
     if top == 0 {
@@ -59,8 +61,11 @@ pub fn stopping_row(
     marks: &mut [u32],
     tops: &mut [u32],
 ) -> usize
-    requires { ⌜ Sought (view m n rule weights (now scores) (now work)) (now items) k × Leading (view m n rule weights (now scores) (now work)) 0 k (now marks) (now tops) ⌝ }
-    ensures { λ r. ⌜ Halted (view m n rule weights (now (scores .entry)) (now (work .entry))) k r × Leading (view m n rule weights (now (scores .entry)) (now (work .entry))) r k (now (marks .exit)) (now (tops .exit)) ⌝ }
+    requires { ⌜ Sought (view m n rule weights (now scores) (now work)) (now items) k
+        × Leading (view m n rule weights (now scores) (now work)) 0 k (now marks) (now tops) ⌝ }
+    ensures { λ r. ⌜ Halted (view m n rule weights (now (scores .entry)) (now (work .entry))) k r
+        × Leading (view m n rule weights (now (scores .entry)) (now (work .entry))) r k (now (marks .exit))
+        (now (tops .exit)) ⌝ }
 {
     let mut at = 0;
     let mut p = 0;

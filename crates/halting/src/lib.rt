@@ -42,7 +42,8 @@ pub fn blocker(
     work: &[u16],
     marks: &[u32],
 ) -> usize
-    requires { ⌜ Legible (view m n rule weights (now scores) (now work)) p × Marked (view m n rule weights (now scores) (now work)) p (now marks) × (at ≤ n) ⌝ }
+    requires { ⌜ Legible (view m n rule weights (now scores) (now work)) p
+        × Marked (view m n rule weights (now scores) (now work)) p (now marks) × (at ≤ n) ⌝ }
     ensures { λ r. ⌜ Blocking (view m n rule weights (now (scores .entry)) (now (work .entry))) p bar at r ⌝ }
 {
     let mut d = at;
@@ -69,7 +70,8 @@ pub fn few_above(
     work: &[u16],
 ) -> bool
     requires { ⌜ Legible (view m n rule weights (now scores) (now work)) p ⌝ }
-    ensures { λ r. ⌜ r ≡ leb (aboveOf (view m n rule weights (now (scores .entry)) (now (work .entry))) p bar) k ⌝ }
+    ensures { λ r. ⌜ r ≡ leb (aboveOf (view m n rule weights (now (scores .entry)) (now (work .entry))) p bar)
+        k ⌝ }
 {
     let mut count = 0;
     let mut d = 0;

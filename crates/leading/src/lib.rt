@@ -54,7 +54,8 @@ fn mark(
     scores: &[u16],
     work: &[u16],
 ) -> u32
-    requires { ⌜ Legible (view m n rule weights (now scores) (now work)) p × (d < n) × (metOf (view m n rule weights (now scores) (now work)) p d ≡ true) ⌝ }
+    requires { ⌜ Legible (view m n rule weights (now scores) (now work)) p × (d < n)
+        × (metOf (view m n rule weights (now scores) (now work)) p d ≡ true) ⌝ }
     ensures { λ r. ⌜ r ≡ markOf (view m n rule weights (now (scores .entry)) (now (work .entry))) p d ⌝ }
 {
     let low = bound(false, d, p, m, n, rule, weights, scores, work);
@@ -76,8 +77,11 @@ fn read_entry(
     marks: &mut [u32],
     tops: &mut [u32],
 )
-    requires { ⌜ Reading (view m n rule weights (now scores) (now work)) (now items) p k × (i < m) × Begun (view m n rule weights (now scores) (now work)) (now items) p i (now marks) × Led n k (now marks) (now tops) ⌝ }
-    ensures { λ _. ⌜ Begun (view m n rule weights (now (scores .entry)) (now (work .entry))) (now (items .entry)) p (i + 1) (now (marks .exit)) × Led n k (now (marks .exit)) (now (tops .exit)) ⌝ }
+    requires { ⌜ Reading (view m n rule weights (now scores) (now work)) (now items) p k × (i < m)
+        × Begun (view m n rule weights (now scores) (now work)) (now items) p i (now marks)
+        × Led n k (now marks) (now tops) ⌝ }
+    ensures { λ _. ⌜ Begun (view m n rule weights (now (scores .entry)) (now (work .entry)))
+        (now (items .entry)) p (i + 1) (now (marks .exit)) × Led n k (now (marks .exit)) (now (tops .exit)) ⌝ }
 {
     let base = i * n;
     let end = base + p;
@@ -103,8 +107,10 @@ pub fn read_row(
     marks: &mut [u32],
     tops: &mut [u32],
 )
-    requires { ⌜ Reading (view m n rule weights (now scores) (now work)) (now items) p k × Leading (view m n rule weights (now scores) (now work)) (p - 1) k (now marks) (now tops) ⌝ }
-    ensures { λ _. ⌜ Leading (view m n rule weights (now (scores .entry)) (now (work .entry))) p k (now (marks .exit)) (now (tops .exit)) ⌝ }
+    requires { ⌜ Reading (view m n rule weights (now scores) (now work)) (now items) p k
+        × Leading (view m n rule weights (now scores) (now work)) (p - 1) k (now marks) (now tops) ⌝ }
+    ensures { λ _. ⌜ Leading (view m n rule weights (now (scores .entry)) (now (work .entry))) p k
+        (now (marks .exit)) (now (tops .exit)) ⌝ }
 {
     let mut i = 0;
     while i < m {

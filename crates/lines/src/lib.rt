@@ -50,7 +50,8 @@ fn answer_line(
     at: usize,
 ) -> usize
     requires { ⌜ AnswerRoom answer k (now picks) (now lows) (now highs) (now out) at ⌝ }
-    ensures { λ r. ⌜ AnswerWritten which answer (placesAt (now (picks .entry)) (now (lows .entry)) (now (highs .entry)) k) (now (out .entry)) at (now (out .exit)) r ⌝ }
+    ensures { λ r. ⌜ AnswerWritten which answer (placesAt (now (picks .entry)) (now (lows .entry))
+        (now (highs .entry)) k) (now (out .entry)) at (now (out .exit)) r ⌝ }
 {
     if answer.number != 0 {
         return text::refused_line(answer.number, answer.list, answer.position, out, at);
@@ -86,7 +87,10 @@ fn one_line(
     at: usize,
 ) -> Line
     requires { ⌜ at + lineRoom ≤ length (now out) ⌝ }
-    ensures { λ r. ⌜ LineMade which (lentWith (asked .m) (asked .n) (asked .rule) (asked .k) (now (weights .entry)) (now (items .entry)) (now (scores .entry)) (now (picks .entry)) (now (lows .entry)) (now (highs .entry)) (now (tally .entry)) (now (work .entry))) (now (out .entry)) at r (now (out .exit)) ⌝ }
+    ensures { λ r. ⌜ LineMade which (lentWith (asked .m) (asked .n) (asked .rule) (asked .k)
+        (now (weights .entry)) (now (items .entry)) (now (scores .entry)) (now (picks .entry))
+        (now (lows .entry)) (now (highs .entry)) (now (tally .entry)) (now (work .entry))) (now (out .entry))
+        at r (now (out .exit)) ⌝ }
 {
     let answer = searches::search(
         which,
@@ -125,7 +129,10 @@ pub fn search_lines(
     out: &mut [u8],
 ) -> usize
     requires { ⌜ 4 * lineRoom ≤ length (now out) ⌝ }
-    ensures { λ r. ⌜ Lines (lentWith (asked .m) (asked .n) (asked .rule) (asked .k) (now (weights .entry)) (now (items .entry)) (now (scores .entry)) (now (picks .entry)) (now (lows .entry)) (now (highs .entry)) (now (tally .entry)) (now (work .entry))) (now (out .entry)) r (now (out .exit)) ⌝ }
+    ensures { λ r. ⌜ Lines (lentWith (asked .m) (asked .n) (asked .rule) (asked .k) (now (weights .entry))
+        (now (items .entry)) (now (scores .entry)) (now (picks .entry)) (now (lows .entry))
+        (now (highs .entry)) (now (tally .entry)) (now (work .entry))) (now (out .entry)) r (now (out .exit))
+        ⌝ }
 {
     let mut at = 0;
     let mut which = 0;

@@ -118,7 +118,8 @@ fn note_list(i: usize, n: usize, items: &[u16], scores: &[u16], places: &mut [u1
 // List by list: each has its own row of the work slice. The first refusal ends it.
 fn note_lists(m: usize, n: usize, items: &[u16], scores: &[u16], work: &mut [u16]) -> Checked
     requires { ⌜ Lying (poses m n (now items) (now scores)) (now work) ⌝ }
-    ensures { λ r. ⌜ ListsNoted (poses m n (now (items .entry)) (now (scores .entry))) (now (work .entry)) r (now (work .exit)) ⌝ }
+    ensures { λ r. ⌜ ListsNoted (poses m n (now (items .entry)) (now (scores .entry))) (now (work .entry)) r
+        (now (work .exit)) ⌝ }
 {
     let mut i = 0;
     while i < m {
@@ -137,7 +138,8 @@ fn note_lists(m: usize, n: usize, items: &[u16], scores: &[u16], work: &mut [u16
 // The list check by itself: tests 1, 5 and 6, then 7 to 9 at each position. After 1, 5, 6 the work slice
 // is as lent, after 7 to 9 its first m x n entries are 0, and of accepted lists it has the positions.
 pub fn check_lists(m: usize, n: usize, items: &[u16], scores: &[u16], work: &mut [u16]) -> Checked
-    ensures { λ r. ⌜ ListsChecked (poses m n (now (items .entry)) (now (scores .entry))) (now (work .entry)) r (now (work .exit)) ⌝ }
+    ensures { λ r. ⌜ ListsChecked (poses m n (now (items .entry)) (now (scores .entry))) (now (work .entry)) r
+        (now (work .exit)) ⌝ }
 {
     if wrong_size(m, n) {
         return refusal(1);

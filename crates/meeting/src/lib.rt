@@ -71,7 +71,8 @@ fn local_score(
     work: &[u16],
 ) -> u32
     requires { ⌜ Located m n d depth (now scores) (now work) × (i < m) ⌝ }
-    ensures { λ r. ⌜ r ≡ readAt n (now (scores .entry)) (now (work .entry)) d depth (unread high n (now (scores .entry)) depth) i ⌝ }
+    ensures { λ r. ⌜ r ≡ readAt n (now (scores .entry)) (now (work .entry)) d depth
+        (unread high n (now (scores .entry)) depth) i ⌝ }
 {
     let base = i * n;
     let at = base + d;
@@ -103,7 +104,8 @@ pub fn bound(
     work: &[u16],
 ) -> u32
     requires { ⌜ Located m n d depth (now scores) (now work) × Small weights (now scores) ⌝ }
-    ensures { λ r. ⌜ r ≡ joined rule (λ i. readAt n (now (scores .entry)) (now (work .entry)) d depth (unread high n (now (scores .entry)) depth) i * getD weights i 0) m ⌝ }
+    ensures { λ r. ⌜ r ≡ joined rule (λ i. readAt n (now (scores .entry)) (now (work .entry)) d depth
+        (unread high n (now (scores .entry)) depth) i * getD weights i 0) m ⌝ }
 {
     let mut acc: u32 = 0;
     let mut i = 0;

@@ -34,8 +34,10 @@ pub fn seat(
     lows: &[u32],
     highs: &[u32],
 ) -> usize
-    requires { ⌜ (filled ≤ length (now picks)) × (filled ≤ length (now lows)) × (filled ≤ length (now highs)) ⌝ }
-    ensures { λ r. ⌜ Seated d low high filled (now (picks .entry)) (now (lows .entry)) (now (highs .entry)) r ⌝ }
+    requires { ⌜ (filled ≤ length (now picks)) × (filled ≤ length (now lows))
+        × (filled ≤ length (now highs)) ⌝ }
+    ensures { λ r. ⌜ Seated d low high filled (now (picks .entry)) (now (lows .entry)) (now (highs .entry)) r
+        ⌝ }
 {
     let mut j = filled;
     while 0 < j {

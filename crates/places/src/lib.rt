@@ -55,7 +55,8 @@ fn fill<'r, 'a>(
     count: usize,
 )
     requires { ⌜ (count ≤ 1024) × (count ≤ length (now rows)) ⌝ }
-    ensures { λ _. ⌜ now (rows .exit) ≡ onto (row (placeAt (now (picks .entry)) (now (lows .entry)) (now (highs .entry))) count) (now (rows .entry)) ⌝ }
+    ensures { λ _. ⌜ now (rows .exit) ≡ onto (row
+        (placeAt (now (picks .entry)) (now (lows .entry)) (now (highs .entry))) count) (now (rows .entry)) ⌝ }
 {
     let mut i = 0;
     while i < count {
@@ -97,7 +98,12 @@ fn search_within(
     work: &mut [u16],
 ) -> Answer
     requires { ⌜ (length (now picks) ≡ 1024) × (length (now lows) ≡ 1024) × (length (now highs) ≡ 1024) ⌝ }
-    ensures { λ r. ⌜ Searched (searchAt which) (lentWith m n rule k (now (weights .entry)) (now (items .entry)) (now (scores .entry)) (take (lesserOf room) (now (picks .entry))) (take (lesserOf room) (now (lows .entry))) (take (lesserOf room) (now (highs .entry))) (now (tally .entry)) (now (work .entry))) r (take (lesserOf room) (now (picks .exit))) (take (lesserOf room) (now (lows .exit))) (take (lesserOf room) (now (highs .exit))) (now (tally .exit)) (now (work .exit)) ⌝ }
+    ensures { λ r. ⌜ Searched (searchAt which) (lentWith m n rule k (now (weights .entry))
+        (now (items .entry)) (now (scores .entry)) (take (lesserOf room) (now (picks .entry)))
+        (take (lesserOf room) (now (lows .entry))) (take (lesserOf room) (now (highs .entry)))
+        (now (tally .entry)) (now (work .entry))) r (take (lesserOf room) (now (picks .exit)))
+        (take (lesserOf room) (now (lows .exit))) (take (lesserOf room) (now (highs .exit)))
+        (now (tally .exit)) (now (work .exit)) ⌝ }
 {
     let part = lesser(room);
     searches::search(
@@ -131,7 +137,9 @@ fn search_columns(
     tally: &mut [u8],
     work: &mut [u16],
 ) -> Kept
-    ensures { λ r. ⌜ Columned which m n rule k room (now (weights .entry)) (now (items .entry)) (now (scores .entry)) (now (tally .entry)) (now (work .entry)) r (now (tally .exit)) (now (work .exit)) ⌝ }
+    ensures { λ r. ⌜ Columned which m n rule k room (now (weights .entry)) (now (items .entry))
+        (now (scores .entry)) (now (tally .entry)) (now (work .entry)) r (now (tally .exit))
+        (now (work .exit)) ⌝ }
 {
     let mut picks = [0u16; 1024];
     let mut lows = [0u32; 1024];
@@ -176,7 +184,10 @@ pub fn search_rows(
     tally: &mut [u8],
     work: &mut [u16],
 ) -> Answer
-    ensures { λ r. ⌜ SearchedRows (searchAt which) (lentRows m n rule k (now (weights .entry)) (now (items .entry)) (now (scores .entry)) (now (rows .entry)) (now (tally .entry)) (now (work .entry))) r (now (rows .entry)) (now (rows .exit)) (now (tally .exit)) (now (work .exit)) ⌝ }
+    ensures { λ r. ⌜ SearchedRows (searchAt which)
+        (lentRows m n rule k (now (weights .entry)) (now (items .entry)) (now (scores .entry))
+        (now (rows .entry)) (now (tally .entry)) (now (work .entry))) r (now (rows .entry)) (now (rows .exit))
+        (now (tally .exit)) (now (work .exit)) ⌝ }
 {
     let kept = search_columns(
         which,
@@ -211,7 +222,9 @@ pub fn ta_rows(
     tally: &mut [u8],
     work: &mut [u16],
 ) -> Answer
-    ensures { λ r. ⌜ SearchedRows TA (lentRows m n rule k (now (weights .entry)) (now (items .entry)) (now (scores .entry)) (now (rows .entry)) (now (tally .entry)) (now (work .entry))) r (now (rows .entry)) (now (rows .exit)) (now (tally .exit)) (now (work .exit)) ⌝ }
+    ensures { λ r. ⌜ SearchedRows TA (lentRows m n rule k (now (weights .entry)) (now (items .entry))
+        (now (scores .entry)) (now (rows .entry)) (now (tally .entry)) (now (work .entry))) r
+        (now (rows .entry)) (now (rows .exit)) (now (tally .exit)) (now (work .exit)) ⌝ }
 {
     search_rows(
         running::TA,
@@ -241,7 +254,9 @@ pub fn bpa_rows(
     tally: &mut [u8],
     work: &mut [u16],
 ) -> Answer
-    ensures { λ r. ⌜ SearchedRows BPA (lentRows m n rule k (now (weights .entry)) (now (items .entry)) (now (scores .entry)) (now (rows .entry)) (now (tally .entry)) (now (work .entry))) r (now (rows .entry)) (now (rows .exit)) (now (tally .exit)) (now (work .exit)) ⌝ }
+    ensures { λ r. ⌜ SearchedRows BPA (lentRows m n rule k (now (weights .entry)) (now (items .entry))
+        (now (scores .entry)) (now (rows .entry)) (now (tally .entry)) (now (work .entry))) r
+        (now (rows .entry)) (now (rows .exit)) (now (tally .exit)) (now (work .exit)) ⌝ }
 {
     search_rows(
         running::BPA,
@@ -271,7 +286,9 @@ pub fn bpa2_rows(
     tally: &mut [u8],
     work: &mut [u16],
 ) -> Answer
-    ensures { λ r. ⌜ SearchedRows BPA2 (lentRows m n rule k (now (weights .entry)) (now (items .entry)) (now (scores .entry)) (now (rows .entry)) (now (tally .entry)) (now (work .entry))) r (now (rows .entry)) (now (rows .exit)) (now (tally .exit)) (now (work .exit)) ⌝ }
+    ensures { λ r. ⌜ SearchedRows BPA2 (lentRows m n rule k (now (weights .entry)) (now (items .entry))
+        (now (scores .entry)) (now (rows .entry)) (now (tally .entry)) (now (work .entry))) r
+        (now (rows .entry)) (now (rows .exit)) (now (tally .exit)) (now (work .exit)) ⌝ }
 {
     search_rows(
         running::BPA2,
@@ -301,7 +318,9 @@ pub fn nra_rows(
     tally: &mut [u8],
     work: &mut [u16],
 ) -> Answer
-    ensures { λ r. ⌜ SearchedRows NRA (lentRows m n rule k (now (weights .entry)) (now (items .entry)) (now (scores .entry)) (now (rows .entry)) (now (tally .entry)) (now (work .entry))) r (now (rows .entry)) (now (rows .exit)) (now (tally .exit)) (now (work .exit)) ⌝ }
+    ensures { λ r. ⌜ SearchedRows NRA (lentRows m n rule k (now (weights .entry)) (now (items .entry))
+        (now (scores .entry)) (now (rows .entry)) (now (tally .entry)) (now (work .entry))) r
+        (now (rows .entry)) (now (rows .exit)) (now (tally .exit)) (now (work .exit)) ⌝ }
 {
     search_rows(
         running::NRA,

@@ -18,7 +18,8 @@ fn after_query(
     work: &mut [u16],
     out: &mut [u8],
 ) -> usize
-    requires { ⌜ Reading (now bytes) query (now items) (now scores) (now picks) (now lows) (now highs) (now tally) (now work) (now out) ⌝ }
+    requires { ⌜ Reading (now bytes) query (now items) (now scores) (now picks) (now lows) (now highs)
+        (now tally) (now work) (now out) ⌝ }
     ensures { λ r. ⌜ Previewed (now (bytes .entry)) (now (out .entry)) r (now (out .exit)) ⌝ }
 {
     let start = query.bytes;
@@ -64,7 +65,8 @@ pub fn preview(
     work: &mut [u16],
     out: &mut [u8],
 ) -> usize
-    requires { ⌜ Roomy (now items) (now scores) (now picks) (now lows) (now highs) (now tally) (now work) (now out) ⌝ }
+    requires { ⌜ Roomy (now items) (now scores) (now picks) (now lows) (now highs) (now tally) (now work)
+        (now out) ⌝ }
     ensures { λ r. ⌜ Previewed (now (bytes .entry)) (now (out .entry)) r (now (out .exit)) ⌝ }
 {
     let query = records::read_query(bytes);

@@ -182,7 +182,8 @@ fn fill(bytes: &[u8], from: usize, size: usize, slice: &mut [u16])
 // Reads the list record that `bytes` is into an item slice and a score slice. Entries past m x n
 // stay as lent, and so do both slices where the read is refused.
 pub fn read_lists(bytes: &[u8], items: &mut [u16], scores: &mut [u16]) -> ListsRead
-    ensures { λ r. ⌜ ListsAreRead (now (bytes .entry)) (now (items .entry)) (now (scores .entry)) r (now (items .exit)) (now (scores .exit)) ⌝ }
+    ensures { λ r. ⌜ ListsAreRead (now (bytes .entry)) (now (items .entry)) (now (scores .entry)) r
+        (now (items .exit)) (now (scores .exit)) ⌝ }
 {
     let number = lists_head(bytes);
     if number != 0 {

@@ -62,8 +62,13 @@ fn by_score(
     tally: &mut [u8],
     work: &[u16],
 ) -> Done
-    requires { ⌜ (which ≤ 2) × (Readable (poses m n (now items) (now scores)) (queryWith rule weights) (now work) × Room (poses m n (now items) (now scores)) k (now picks) (now lows) (now highs) (now tally)) ⌝ }
-    ensures { λ r. ⌜ Runs which (poses m n (now (items .entry)) (now (scores .entry))) (queryWith rule weights) k (now (picks .entry)) (now (lows .entry)) (now (highs .entry)) (now (tally .entry)) r (now (picks .exit)) (now (lows .exit)) (now (highs .exit)) (now (tally .exit)) ⌝ }
+    requires { ⌜ (which ≤ 2) × (Readable (poses m n (now items) (now scores)) (queryWith rule weights)
+        (now work) × Room (poses m n (now items) (now scores)) k (now picks) (now lows) (now highs)
+        (now tally)) ⌝ }
+    ensures { λ r. ⌜ Runs which (poses m n (now (items .entry)) (now (scores .entry)))
+        (queryWith rule weights) k (now (picks .entry)) (now (lows .entry)) (now (highs .entry))
+        (now (tally .entry)) r (now (picks .exit)) (now (lows .exit)) (now (highs .exit)) (now (tally .exit))
+        ⌝ }
 {
     let done = scored::run(
         which,
@@ -99,8 +104,12 @@ pub fn run(
     tally: &mut [u8],
     work: &[u16],
 ) -> Done
-    requires { ⌜ Readable (poses m n (now items) (now scores)) (queryWith rule weights) (now work) × Room (poses m n (now items) (now scores)) k (now picks) (now lows) (now highs) (now tally) ⌝ }
-    ensures { λ r. ⌜ Runs which (poses m n (now (items .entry)) (now (scores .entry))) (queryWith rule weights) k (now (picks .entry)) (now (lows .entry)) (now (highs .entry)) (now (tally .entry)) r (now (picks .exit)) (now (lows .exit)) (now (highs .exit)) (now (tally .exit)) ⌝ }
+    requires { ⌜ Readable (poses m n (now items) (now scores)) (queryWith rule weights) (now work)
+        × Room (poses m n (now items) (now scores)) k (now picks) (now lows) (now highs) (now tally) ⌝ }
+    ensures { λ r. ⌜ Runs which (poses m n (now (items .entry)) (now (scores .entry)))
+        (queryWith rule weights) k (now (picks .entry)) (now (lows .entry)) (now (highs .entry))
+        (now (tally .entry)) r (now (picks .exit)) (now (lows .exit)) (now (highs .exit)) (now (tally .exit))
+        ⌝ }
 {
     if which < NRA {
         return by_score(

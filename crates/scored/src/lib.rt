@@ -41,8 +41,11 @@ fn step(
     tally: &mut [u8],
     work: &[u16],
 ) -> Turn
-    requires { ⌜ Stepping which p (poses m n (now items) (now scores)) (queryWith rule weights) k filled best (now picks) (now lows) (now tally) (now work) ⌝ }
-    ensures { λ r. ⌜ Stepped which p (poses m n (now (items .entry)) (now (scores .entry))) (queryWith rule weights) k filled (now (picks .entry)) (now (lows .entry)) (now (tally .entry)) r (now (picks .exit)) (now (lows .exit)) (now (tally .exit)) ⌝ }
+    requires { ⌜ Stepping which p (poses m n (now items) (now scores)) (queryWith rule weights) k filled best
+        (now picks) (now lows) (now tally) (now work) ⌝ }
+    ensures { λ r. ⌜ Stepped which p (poses m n (now (items .entry)) (now (scores .entry)))
+        (queryWith rule weights) k filled (now (picks .entry)) (now (lows .entry)) (now (tally .entry)) r
+        (now (picks .exit)) (now (lows .exit)) (now (tally .exit)) ⌝ }
 {
     if which == BPA2 {
         return rows::round(
@@ -133,8 +136,11 @@ pub fn run(
     tally: &mut [u8],
     work: &[u16],
 ) -> Done
-    requires { ⌜ Running (poses m n (now items) (now scores)) (queryWith rule weights) k (now picks) (now lows) (now tally) (now work) ⌝ }
-    ensures { λ r. ⌜ Ran which (poses m n (now (items .entry)) (now (scores .entry))) (queryWith rule weights) k (now (picks .entry)) (now (lows .entry)) (now (tally .entry)) r (now (picks .exit)) (now (lows .exit)) (now (tally .exit)) ⌝ }
+    requires { ⌜ Running (poses m n (now items) (now scores)) (queryWith rule weights) k (now picks)
+        (now lows) (now tally) (now work) ⌝ }
+    ensures { λ r. ⌜ Ran which (poses m n (now (items .entry)) (now (scores .entry))) (queryWith rule weights)
+        k (now (picks .entry)) (now (lows .entry)) (now (tally .entry)) r (now (picks .exit))
+        (now (lows .exit)) (now (tally .exit)) ⌝ }
 {
     visits::clear(tally, m * n);
     let mut best = [0usize; 8];

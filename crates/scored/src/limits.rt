@@ -41,7 +41,8 @@ pub fn ends(
     lows: &[u32],
 ) -> bool
     requires { ⌜ Limited m n at weights (now scores) × (1 ≤ k) × (k ≤ length (now lows)) ⌝ }
-    ensures { λ r. ⌜ r ≡ (eqb p n || (leb k filled && leb (limitAt rule weights m n at (now (scores .entry))) (getD (now (lows .entry)) (k - 1) 0))) ⌝ }
+    ensures { λ r. ⌜ r ≡ (eqb p n || (leb k filled && leb (limitAt rule weights m n at (now (scores .entry)))
+        (getD (now (lows .entry)) (k - 1) 0))) ⌝ }
 {
     if p == n {
         return true;

@@ -83,7 +83,8 @@ fn place(item: u16, low: u32, high: u32, out: &mut [u8], at: usize) -> usize
 // The first k places of the shortlist.
 fn places(k: usize, picks: &[u16], lows: &[u32], highs: &[u32], out: &mut [u8], at: usize) -> usize
     requires { ⌜ LineRoom (28 * k) k (now picks) (now lows) (now highs) (now out) at ⌝ }
-    ensures { λ r. ⌜ Appended (placesText (placesAt (now (picks .entry)) (now (lows .entry)) (now (highs .entry)) k)) (now (out .entry)) at (now (out .exit)) r ⌝ }
+    ensures { λ r. ⌜ Appended (placesText (placesAt (now (picks .entry)) (now (lows .entry))
+        (now (highs .entry)) k)) (now (out .entry)) at (now (out .exit)) r ⌝ }
 {
     let mut end = at;
     let mut i = 0;
@@ -108,8 +109,11 @@ pub fn line(
     out: &mut [u8],
     at: usize,
 ) -> usize
-    requires { ⌜ LineRoom (length (now name) + 45 + 28 * k) k (now picks) (now lows) (now highs) (now out) at ⌝ }
-    ensures { λ r. ⌜ Appended (Program·line (now (name .entry)) rows sorted direct random (placesAt (now (picks .entry)) (now (lows .entry)) (now (highs .entry)) k)) (now (out .entry)) at (now (out .exit)) r ⌝ }
+    requires { ⌜ LineRoom (length (now name) + 45 + 28 * k) k (now picks) (now lows) (now highs) (now out) at
+        ⌝ }
+    ensures { λ r. ⌜ Appended (Program·line (now (name .entry)) rows sorted direct random
+        (placesAt (now (picks .entry)) (now (lows .entry)) (now (highs .entry)) k)) (now (out .entry)) at
+        (now (out .exit)) r ⌝ }
 {
     let at = word(name, out, at);
     let at = spaced(rows, out, at);

@@ -168,7 +168,8 @@ fn in_slices(
 
 // The lengths of the slices to be written.
 fn read_room() -> Room
-    ensures { λ r. ⌜ (r .picks ≤ 1100) × (r .lows ≤ 1100) × (r .highs ≤ 1100) × (r .tally ≤ 8200) × (r .work ≤ 8200) ⌝ }
+    ensures { λ r. ⌜ (r .picks ≤ 1100) × (r .lows ≤ 1100) × (r .highs ≤ 1100) × (r .tally ≤ 8200)
+        × (r .work ≤ 8200) ⌝ }
 {
     let picks = input::length(1100);
     let lows = input::length(1100);

@@ -102,14 +102,31 @@ places-requires c κs =
     (at-start .args .picks .now) (at-start .args .lows .now) (after-clear .clear .last .0) (at-start .pre .keeps) (tally-room after-clear)
     (at-loop .loop .inv) (after-step .step .ensures)
 
+-- the places before a row's threshold is known: the row or round, its turn of the loop, the cleared tally, the start
+abbrev stepped-of : tie.After-places Inv-loop μ-loop → tie.After-step Inv-loop μ-loop
+stepped-of c = c .before .before .before .before .before .before .before .before .before .before
+
+abbrev turn-of : tie.After-places Inv-loop μ-loop → tie.At-loop Inv-loop μ-loop
+turn-of c = stepped-of c .before .before .before .before
+
+abbrev cleared-of : tie.After-places Inv-loop μ-loop → tie.After-clear Inv-loop μ-loop
+cleared-of c = turn-of c .before .before .before
+
+abbrev start-of : tie.After-places Inv-loop μ-loop → tie.Start Inv-loop μ-loop
+start-of c = cleared-of c .before .before .before .before .before .before .before .before
+
 -- one row or round later
 later : (c : tie.After-places Inv-loop μ-loop)
-    → After ((c .before .before .before .before .before .before .before .before .before .before .before .before .before .before .before .before .before .before .before .before .before .before .before .before .before) .args .which) (lent (c .before .before .before .before .before .before .before .before .before .before .before .before .before .before .before .before .before .before .before .before .before .before .before .before .before)) (asked (c .before .before .before .before .before .before .before .before .before .before .before .before .before .before .before .before .before .before .before .before .before .before .before .before .before)) ((c .before .before .before .before .before .before .before .before .before .before .before .before .before .before .before .before .before .before .before .before .before .before .before .before .before) .args .k) ((c .before .before .before .before .before .before .before .before .before .before .before .before .before .before .before .before .before .before .before .before .before .before .before .before .before) .args .picks .now) ((c .before .before .before .before .before .before .before .before .before .before .before .before .before .before .before .before .before .before .before .before .before .before .before .before .before) .args .lows .now) ((c .before .before .before .before .before .before .before .before .before .before .before .before .before .before .before .before .before) .clear .last .0) ((c .before .before .before .before .before .before .before .before .before .before) .step .result .filled) ((c .before .before .before .before .before .before .before .before .before .before) .step .last .1 .1 .1 .1 .1 .1 .1 .1 .1 .1 .1 .0) ((c .before .before .before .before .before .before .before .before .before .before) .step .last .1 .1 .1 .1 .1 .1 .1 .1 .1 .1 .1 .1 .0) ((c .before .before .before .before .before .before .before .before .before .before) .step .last .1 .1 .1 .1 .1 .1 .1 .1 .1 .1 .1 .1 .1 .0) (c .places .result) ((c .before .before .before .before .before .before .before .before .before .before .before .before .before .before) .loop .found + (c .before .before .before .before .before .before .before .before .before .before) .step .result .found) ((c .before .before .before .before .before .before .before .before .before .before .before .before .before .before) .loop .p + 1)
+    → After (start-of c .args .which) (lent (start-of c)) (asked (start-of c)) (start-of c .args .k) (start-of c .args .picks .now)
+    (start-of c .args .lows .now) (cleared-of c .clear .last .0) (stepped-of c .step .result .filled)
+    (stepped-of c .step .last .1 .1 .1 .1 .1 .1 .1 .1 .1 .1 .1 .0) (stepped-of c .step .last .1 .1 .1 .1 .1 .1 .1 .1 .1 .1 .1 .1 .0)
+    (stepped-of c .step .last .1 .1 .1 .1 .1 .1 .1 .1 .1 .1 .1 .1 .1 .0) (c .places .result)
+    (turn-of c .loop .found + stepped-of c .step .result .found) (turn-of c .loop .p + 1)
 later c =
-    let at-start = c .before .before .before .before .before .before .before .before .before .before .before .before .before .before .before .before .before .before .before .before .before .before .before .before .before in
-    let after-clear = c .before .before .before .before .before .before .before .before .before .before .before .before .before .before .before .before .before in
-    let at-loop = c .before .before .before .before .before .before .before .before .before .before .before .before .before .before in
-    let after-step = c .before .before .before .before .before .before .before .before .before .before in
+    let at-start = start-of c in
+    let after-clear = cleared-of c in
+    let at-loop = turn-of c in
+    let after-step = stepped-of c in
     row-made (at-start .args .m) (at-start .args .n) (at-start .args .rule) (at-start .args .weights) (at-start .args .items .now)
     (at-start .args .scores .now) (at-start .args .work .now) (at-start .pre .readable) (at-start .args .which) (at-start .args .k)
     (at-start .args .picks .now) (at-start .args .lows .now) (after-clear .clear .last .0) (at-start .pre .keeps) (tally-room after-clear)
