@@ -55,7 +55,7 @@ fn consider(
     if own == 0 {
         return filled;
     }
-    let high = bound(true, d, p, m, n, rule, weights, scores, work);
+    let high = bound(true, d, p, m, n, rule, &weights, scores, work);
     keep(narrow(d), own - 1, high, k, filled, picks, lows, highs)
 }
 

@@ -3,14 +3,17 @@
 // items that are not met are in the way, no other item is looked at.
 use halting::blocker;
 use halting::few_above;
+use halting::reach;
 use leading::read_row;
+use meeting::limits::threshold;
 ghost use Prim.Native.Nat.{_≤_, _<_};
 ghost use Rattle.halting.specs.Contracts.{view, Legible, Marked};
 ghost use Rattle.leading.specs.Contracts.{Leading};
 ghost use Rattle.ending.specs.Contracts.{Kth, Obstructed, Sought, Halted};
 
 // An item that keeps NRA from stopping after p rows, or n where it stops; `top` is the k-th mark. The item
-// at `at` is asked first, then those behind it, and all of them only where none of these is in the way.
+// at `at` is asked first, then those behind it, then those in front of it. Where none is in the way, more than k highs
+// can be above the k-th low only if more than k lows reach it.
 fn obstacle(
     at: usize,
     p: usize,
@@ -33,13 +36,43 @@ fn obstacle(
         return at;
     }
     let bar = top - 1;
-    let behind = blocker(at, p, bar, m, n, rule, weights, scores, work, marks);
+    let unmet = threshold(rule, weights, m, n, [p; 8], scores);
+    let behind = blocker(
+        at,
+        n,
+        p,
+        bar,
+        unmet,
+        m,
+        n,
+        rule,
+        weights,
+        scores,
+        work,
+        marks,
+    );
     if behind < n {
         return behind;
     }
-    let front = blocker(0, p, bar, m, n, rule, weights, scores, work, marks);
-    if front < n {
+    let front = blocker(
+        0,
+        at,
+        p,
+        bar,
+        unmet,
+        m,
+        n,
+        rule,
+        weights,
+        scores,
+        work,
+        marks,
+    );
+    if front < at {
         return front;
+    }
+    if reach(n, bar, marks) <= k {
+        return n;
     }
     if few_above(p, k, bar, m, n, rule, weights, scores, work) {
         return n;

@@ -3,23 +3,25 @@
 --     boundOf, metOf         an item's low or high after p rows; whether it is met
 --     haltsOf                NRA's test after p rows
 --     Legible, at-row        what reading after p rows asks; the same after another row
---     bound-asks             what a bound asks of an item, from that
+--     bound-asks, limit-asks     what a bound asks of an item, and what a row's threshold asks, from that
 --     markOf, Marked         an item's low as a number above 0 where it is met; each item's
 --     reachOf, Barred        how many marks are above a bar; the highest bar that k of them are above
 --     passesOf, aboveOf      an item does not stand in the way of stopping; how many highs are above a bar
 --     partsOf                NRA's test by that bar
---     Blocking               the first item from one on that stands in the way
+--     unmetOf                the high of an item that is not met
+--     Blocking               the first of some items that stands in the way
 -- Assumes nothing.
 use mathlib.Core.Path.{_≡_}
 use mathlib.Core.Bool.{Bool, true, false, cond, _&&_, _||_}
 use mathlib.Core.List.{List}
 use Prim.Native.Nat.{ℕ, suc, _+_, _*_, _≤_, _<_}
 use lib.Dec.{leb, ltb}
-use lib.ListN.{length, getD}
+use native.Mathlib.Omega.{arith}
+use lib.ListN.{length, getD, replicate, getD-replicate}
 use Rattle.model.specs.Words.{someBelow}
 use Rattle.model.specs.Given.{joined}
 use Rattle.laws.specs.Passing.{passing}
-use Rattle.meeting.specs.Contracts.{readAt, unread, Located, Small}
+use Rattle.meeting.specs.Contracts.{readAt, unread, Located, Small, Limited, limitAt}
 use Rattle.halting.specs.Bar.{halts, parts}
 
 -- What the bounds are read from: m lists of n entries, the rule and the weights, the scores and the work slice's positions
@@ -92,6 +94,17 @@ bound-asks d w h = (
   record { weights-small = w .weights-small; scores-small = w .scores-small },
 )
 
+-- what the threshold of row p asks, from that
+pub limit-asks : {v : View} {p : ℕ} → Legible v p → Limited (v .m) (v .n) (replicate 8 p) (v .weights) (v .scores)
+limit-asks {v} {p} w =
+    record {
+      m-most = w .m-most;
+      scores-long = w .scores-long;
+      at-least = λ i hi. rw (getD-replicate {A = ℕ} 8 i p 0 (omega (arith, w .m-most))) (w .row-least);
+      at-most = λ i hi. rw (getD-replicate {A = ℕ} 8 i p 0 (omega (arith, w .m-most))) (w .row-most);
+      small = record { weights-small = w .weights-small; scores-small = w .scores-small };
+    }
+
 -- ---- the test
 -- item d's low after p rows and one more; 0 where it is not met
 unfoldable pub markOf : View → ℕ → ℕ → ℕ
@@ -119,13 +132,17 @@ passesOf v p bar d = leb (boundOf v true p d) bar || (metOf v p d && leb bar (bo
 unfoldable pub aboveOf : View → ℕ → ℕ → ℕ
 aboveOf v p bar = passing (λ d. ltb bar (boundOf v true p d)) (v .n)
 
+-- the high of an item that is not met after p rows: the threshold of row p
+unfoldable pub unmetOf : View → ℕ → ℕ
+unmetOf v p = limitAt (v .rule) (v .weights) (v .m) (v .n) (replicate 8 p) (v .scores)
+
 -- NRA's test after p rows by the k-th low
 unfoldable pub partsOf : View → ℕ → ℕ → ℕ → Bool
 partsOf v k p bar = parts (v .n) k (boundOf v false p) (boundOf v true p) (metOf v p) bar
 
--- The first item from `at` on that stands in the way, or n
-pub record Blocking (v : View) (p bar at r : ℕ) : Type 0 where
-  pub least : at ≤ r
-  pub most : r ≤ v .n
-  pub in-the-way : r < v .n → passesOf v p bar r ≡ false
-  pub none-before : (d : ℕ) → at ≤ d → d < r → passesOf v p bar d ≡ true
+-- The first item from `from` on and before `to` that stands in the way, or `to`
+pub record Blocking (v : View) (p bar from to r : ℕ) : Type 0 where
+  pub least : from ≤ r
+  pub most : r ≤ to
+  pub in-the-way : r < to → passesOf v p bar r ≡ false
+  pub none-before : (d : ℕ) → from ≤ d → d < r → passesOf v p bar d ≡ true

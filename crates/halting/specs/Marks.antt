@@ -4,8 +4,10 @@
 --     mark-above             a mark is above a bar: the item is met and its low reaches the bar
 --     reach-is               how many marks are above a bar: how many met items' lows reach it
 --     blocks-not             an item stands in the way exactly where it fails its part of the test
+--     unmet-high             the high of an item that is not met is the threshold of the row
 --     halts-few              fewer than k marks: the test fails
 --     halts-not, halts-yes   else the highest bar that k marks are above tells: an item stands in the way; none does, and few highs are above
+--     halts-reach            none does, and no more than k marks are above it
 -- Assumes nothing.
 use mathlib.Core.Path.{_≡_, refl, sym, _∙_}
 use mathlib.Core.Bool.{Bool, true, false, not, _&&_, _||_, true≢false}
@@ -14,16 +16,16 @@ use Prim.Native.Nat.{ℕ, suc, _+_, _-_, _*_, _≤_, _<_}
 use native.Mathlib.Nat.{mul-le-mul-right}
 use native.Mathlib.Omega.{arith}
 use lib.Dec.{leb, ltb}
-use lib.ListN.{getD}
-use borrow.Author.Tests.{leb-true, leb-false, le-leb, lt-ltb, le-ltb}
+use lib.ListN.{getD, replicate, getD-replicate}
+use borrow.Author.Tests.{leb-true, leb-false, le-leb, ltb-true, lt-ltb, le-ltb}
 use Rattle.model.specs.Words.{lastOf}
-use Rattle.laws.specs.Tests.{by-cases, and-yes, every-all, every-at, ltb-not-leb}
+use Rattle.laws.specs.Tests.{by-cases, and-yes, some-not, every-all, every-at, ltb-not-leb}
 use Rattle.laws.specs.Passing.{passing, passing-same, passing-wider}
-use Rattle.laws.specs.Ahead.{never}
-use Rattle.laws.specs.Overall.{joined-rises, joined-most, product-most}
-use Rattle.meeting.specs.Contracts.{readAt, unread}
+use Rattle.laws.specs.Ahead.{or-yes, never}
+use Rattle.laws.specs.Overall.{joined-same, joined-rises, joined-most, product-most}
+use Rattle.meeting.specs.Contracts.{readAt, unread, limitAt}
 use Rattle.halting.specs.Bar.{held, parts, halts-parted, parts-halts}
-use Rattle.halting.specs.Contracts.{View, boundOf, metOf, haltsOf, Legible, markOf, Marked, reachOf, Barred, passesOf, aboveOf, partsOf}
+use Rattle.halting.specs.Contracts.{View, boundOf, metOf, haltsOf, Legible, markOf, Marked, reachOf, Barred, passesOf, aboveOf, unmetOf, partsOf}
 
 -- what stands for a local score that is not read
 unread-most : (high : Bool) (n : ℕ) (scores : List ℕ) (p i : ℕ) → ((j : ℕ) → getD scores j 0 ≤ 65535)
@@ -84,19 +86,36 @@ module _ {v : View} {p : ℕ} (w : Legible v p) where
       (y, a, le-ltb bar (boundOf v false p d + 1) (omega (arith, leb-false bar (boundOf v false p d) a)))))
       (λ (z : metOf v p d ≡ false). rw (z, le-ltb bar 0 (omega arith)))
 
+  pub blocks-not : (bar d : ℕ) → (ltb bar (boundOf v true p d) && leb (markOf v p d) bar) ≡ not (passesOf v p bar d)
+  unfolding passesOf
+  blocks-not bar d =
+      rw (← (mark-above bar d), ltb-not-leb (boundOf v true p d) bar, ltb-not-leb (markOf v p d) bar)
+      (not-either (leb (boundOf v true p d) bar) (leb (markOf v p d) bar))
+
+  -- the high of an item that is not met
+  pub unmet-high : (d : ℕ) → markOf v p d ≡ 0 → boundOf v true p d ≡ unmetOf v p
+  unfolding markOf metOf boundOf unmetOf limitAt readAt unread
+  unmet-high d none =
+      by-cases (metOf v p d)
+      (λ (y : metOf v p d ≡ true). absurd (omega (arith, sym (rw y at none))))
+      (λ (z : metOf v p d ≡ false).
+      joined-same (v .rule)
+      (λ i. readAt (v .n) (v .scores) (v .work) d p (unread true (v .n) (v .scores) p) i * getD (v .weights) i 0)
+      (λ i. getD (v .scores) (i * v .n + (getD (replicate 8 p) i 0 - 1)) 0 * getD (v .weights) i 0) (v .m)
+      (λ i hi.
+      let at : i * v .n + p - 1 ≡ i * v .n + (p - 1) = omega (arith, w .row-least) in
+      rw (
+        some-not (λ j. leb (getD (v .work) (j * v .n + d) 0) p) (v .m) i z hi,
+        getD-replicate {A = ℕ} 8 i p 0 (omega (arith, w .m-most)),
+        at,
+      )))
+
   module _ {marks : List ℕ} (noted : Marked v p marks) where
     pub reach-is : (bar : ℕ) → reachOf (v .n) marks bar ≡ passing (λ d. metOf v p d && leb bar (boundOf v false p d)) (v .n)
     unfolding reachOf
     reach-is bar =
         passing-same (λ d. ltb bar (getD marks d 0)) (λ d. metOf v p d && leb bar (boundOf v false p d)) (v .n)
         (λ d hd. rw (noted .marks-are d hd) (mark-above bar d))
-
-    pub blocks-not : (bar d : ℕ) → d < v .n
-        → (ltb bar (boundOf v true p d) && leb (getD marks d 0) bar) ≡ not (passesOf v p bar d)
-    unfolding passesOf
-    blocks-not bar d hd =
-        rw (noted .marks-are d hd, ← (mark-above bar d), ltb-not-leb (boundOf v true p d) bar, ltb-not-leb (markOf v p d) bar)
-        (not-either (leb (boundOf v true p d) bar) (leb (markOf v p d) bar))
 
     pub halts-few : (k : ℕ) → 1 ≤ k → reachOf (v .n) marks 0 < k → haltsOf v k p ≡ false
     unfolding haltsOf
@@ -134,3 +153,18 @@ module _ {v : View} {p : ℕ} (w : Legible v p) where
       unfolding partsOf parts passesOf aboveOf
       halts-yes all = sym halts-barred ∙ rw (every-all (λ d. leb (boundOf v true p d) bar || (metOf v p d && leb bar (boundOf v false p d))) (v .n)
           all)
+
+      -- no more lows reach the bar than k, so no more highs are above it
+      pub halts-reach : ((d : ℕ) → d < v .n → passesOf v p bar d ≡ true) → reachOf (v .n) marks bar ≤ k → haltsOf v k p ≡ true
+      unfolding passesOf aboveOf reachOf
+      halts-reach all few =
+          halts-yes all
+          ∙ le-leb (aboveOf v p bar) k
+          (omega (
+            arith,
+            passing-wider (λ d. ltb bar (boundOf v true p d)) (λ d. ltb bar (getD marks d 0)) (v .n)
+                (λ d hd above.
+                or-yes (leb (boundOf v true p d) bar) (metOf v p d && leb bar (boundOf v false p d)) (all d hd)
+                (λ below. absurd (omega (arith, leb-true (boundOf v true p d) bar below, ltb-true bar (boundOf v true p d) above)))
+                (λ inside. rw (noted .marks-are d hd) (mark-above bar d ∙ inside))),
+          ))

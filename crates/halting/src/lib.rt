@@ -2,11 +2,12 @@
 // parts the first k items from all others.
 use meeting::bound;
 ghost use mathlib.Core.Path.{_≡_};
-ghost use mathlib.Core.Bool.{_&&_};
+ghost use mathlib.Core.Bool.{not};
 ghost use Prim.Native.Nat.{_+_, _≤_, _<_};
 ghost use lib.Dec.{leb, ltb};
+ghost use lib.ListN.{length};
 ghost use Rattle.laws.specs.Lookups.{once};
-ghost use Rattle.halting.specs.Contracts.{view, aboveOf, Legible, Marked, Blocking};
+ghost use Rattle.halting.specs.Contracts.{view, markOf, reachOf, passesOf, aboveOf, unmetOf, Legible, Marked, Blocking};
 
 // 1 where x is above the bar.
 fn above(bar: u32, x: u32) -> usize
@@ -18,22 +19,57 @@ fn above(bar: u32, x: u32) -> usize
     0
 }
 
-// An item stands in the way of stopping: its high is above the bar, and it is not met or its low does not
-// reach the bar.
-fn blocks(bar: u32, high: u32, mark: u32) -> bool
-    ensures { λ r. ⌜ r ≡ (ltb bar high && leb mark bar) ⌝ }
+// How many of n marks are above the bar.
+pub fn reach(n: usize, bar: u32, marks: &[u32]) -> usize
+    requires { ⌜ (n ≤ 1024) × (n ≤ length (now marks)) ⌝ }
+    ensures { λ r. ⌜ r ≡ reachOf n (now (marks .entry)) bar ⌝ }
 {
-    if bar < high {
-        return mark <= bar;
+    let mut count = 0;
+    let mut d = 0;
+    while d < n {
+        count += above(bar, marks[d]);
+        d += 1;
     }
-    false
+    count
 }
 
-// The first item from `at` on that stands in the way of stopping after p rows, or n.
-pub fn blocker(
-    at: usize,
+// Item d, whose mark is `own`, stands in the way of stopping: its high is above the bar, and it is not met or
+// its low does not reach the bar. `unmet` is the high of every item that is not met, so nothing is looked up for those.
+fn in_the_way(
+    d: usize,
     p: usize,
     bar: u32,
+    unmet: u32,
+    own: u32,
+    m: usize,
+    n: usize,
+    rule: u8,
+    weights: [u32; 8],
+    scores: &[u16],
+    work: &[u16],
+) -> bool
+    requires { ⌜ Legible (view m n rule weights (now scores) (now work)) p × (d < n)
+        × (own ≡ markOf (view m n rule weights (now scores) (now work)) p d)
+        × (unmet ≡ unmetOf (view m n rule weights (now scores) (now work)) p) ⌝ }
+    ensures { λ r. ⌜ r ≡ not (passesOf (view m n rule weights (now (scores .entry)) (now (work .entry))) p bar
+        d) ⌝ }
+{
+    if own == 0 {
+        return bar < unmet;
+    }
+    if bar < own {
+        return false;
+    }
+    bar < bound(true, d, p, m, n, rule, &weights, scores, work)
+}
+
+// The first item from `from` on and before `to` that stands in the way of stopping after p rows, or `to`.
+pub fn blocker(
+    from: usize,
+    to: usize,
+    p: usize,
+    bar: u32,
+    unmet: u32,
     m: usize,
     n: usize,
     rule: u8,
@@ -43,13 +79,26 @@ pub fn blocker(
     marks: &[u32],
 ) -> usize
     requires { ⌜ Legible (view m n rule weights (now scores) (now work)) p
-        × Marked (view m n rule weights (now scores) (now work)) p (now marks) × (at ≤ n) ⌝ }
-    ensures { λ r. ⌜ Blocking (view m n rule weights (now (scores .entry)) (now (work .entry))) p bar at r ⌝ }
+        × Marked (view m n rule weights (now scores) (now work)) p (now marks)
+        × (unmet ≡ unmetOf (view m n rule weights (now scores) (now work)) p) × (from ≤ to) × (to ≤ n) ⌝ }
+    ensures { λ r. ⌜ Blocking (view m n rule weights (now (scores .entry)) (now (work .entry))) p bar from to
+        r ⌝ }
 {
-    let mut d = at;
-    while d < n {
-        let high = bound(true, d, p, m, n, rule, weights, scores, work);
-        if blocks(bar, high, marks[d]) {
+    let mut d = from;
+    while d < to {
+        if in_the_way(
+            d,
+            p,
+            bar,
+            unmet,
+            marks[d],
+            m,
+            n,
+            rule,
+            weights,
+            scores,
+            work,
+        ) {
             return d;
         }
         d += 1;
@@ -76,7 +125,7 @@ pub fn few_above(
     let mut count = 0;
     let mut d = 0;
     while d < n {
-        count += above(bar, bound(true, d, p, m, n, rule, weights, scores, work));
+        count += above(bar, bound(true, d, p, m, n, rule, &weights, scores, work));
         d += 1;
     }
     count <= k

@@ -58,7 +58,7 @@ fn mark(
         × (metOf (view m n rule weights (now scores) (now work)) p d ≡ true) ⌝ }
     ensures { λ r. ⌜ r ≡ markOf (view m n rule weights (now (scores .entry)) (now (work .entry))) p d ⌝ }
 {
-    let low = bound(false, d, p, m, n, rule, weights, scores, work);
+    let low = bound(false, d, p, m, n, rule, &weights, scores, work);
     low + 1
 }
 

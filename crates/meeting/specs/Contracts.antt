@@ -5,6 +5,7 @@
 --     Shown, Ran           the shortlist's slices; what the run of any search promises of the four slices that it writes
 --     readAt, unread       an item's local score as the slices have it, and what stands for one that is not read
 --     Located, Small       what the score of an item asks
+--     Limited, limitAt     what a threshold asks; the joined scores at a position of each list
 --     aheadOf, Seated      the order on items with their lows and highs; where an item belongs among the first `filled`
 --     slid                 a value put in at a seat, what stood from there on moved one place on
 -- Assumes nothing.
@@ -15,7 +16,7 @@ use Prim.Native.Nat.{ℕ, suc, _+_, _-_, _*_, _≤_, _<_}
 use lib.Dec.{eqb, leb, ltb}
 use lib.ListN.{length, getD, take, drop}
 use Rattle.model.specs.Words.{over}
-use Rattle.model.specs.Given.{Poses, Query}
+use Rattle.model.specs.Given.{Poses, Query, joined}
 use Rattle.model.specs.Accesses.{tally}
 use Rattle.model.specs.Searches.{Search, kept}
 use Rattle.laws.specs.Accepted.{Valid, Placed}
@@ -77,6 +78,18 @@ pub record Located (m n d depth : ℕ) (scores work : List ℕ) : Type 0 where
 pub record Small (weights scores : List ℕ) : Type 0 where
   pub weights-small : (i : ℕ) → getD weights i 0 ≤ 1000
   pub scores-small : (j : ℕ) → getD scores j 0 ≤ 65535
+
+-- A position, from one, stands for each of m lists that lie within the scores
+pub record Limited (m n : ℕ) (at weights scores : List ℕ) : Type 0 where
+  pub m-most : m ≤ 8
+  pub scores-long : m * n ≤ length scores
+  pub at-least : (i : ℕ) → i < m → 1 ≤ getD at i 0
+  pub at-most : (i : ℕ) → i < m → getD at i 0 ≤ n
+  pub small : Small weights scores
+
+-- the scores at a position of each list, counted from one, joined by the rule
+unfoldable pub limitAt : ℕ → List ℕ → ℕ → ℕ → List ℕ → List ℕ → ℕ
+limitAt rule weights m n at scores = joined rule (λ i. getD scores (i * n + (getD at i 0 - 1)) 0 * getD weights i 0) m
 
 -- ---- the shortlist
 -- item d with its low and high stands before item e with its own: by low falling, then high falling, then item rising

@@ -1,5 +1,6 @@
 // What the searches share: the three kinds of accesses, and an item's overall score, or a bound on it, under a rule
 // and weights.
+pub mod limits;
 pub mod seats;
 pub mod sliding;
 
@@ -99,13 +100,13 @@ pub fn bound(
     m: usize,
     n: usize,
     rule: u8,
-    weights: [u32; 8],
+    weights: &[u32; 8],
     scores: &[u16],
     work: &[u16],
 ) -> u32
-    requires { ⌜ Located m n d depth (now scores) (now work) × Small weights (now scores) ⌝ }
+    requires { ⌜ Located m n d depth (now scores) (now work) × Small (now weights) (now scores) ⌝ }
     ensures { λ r. ⌜ r ≡ joined rule (λ i. readAt n (now (scores .entry)) (now (work .entry)) d depth
-        (unread high n (now (scores .entry)) depth) i * getD weights i 0) m ⌝ }
+        (unread high n (now (scores .entry)) depth) i * getD (now (weights .entry)) i 0) m ⌝ }
 {
     let mut acc: u32 = 0;
     let mut i = 0;

@@ -19,18 +19,17 @@ use lib.ListN.{length, getD, take, drop, replicate, length-replicate}
 use borrow.Author.Tests.{eqb-false}
 use Rattle.model.specs.Words.{table, over}
 use Rattle.model.specs.Given.{Poses, Query, total}
-use Rattle.model.specs.Accesses.{Access, times, best, made, tally}
+use Rattle.model.specs.Accesses.{Access, times, made, tally}
 use Rattle.model.specs.Searches.{stops, rows}
 use Rattle.laws.specs.Tests.{or-no}
 use Rattle.laws.specs.Lists.{table-length}
 use Rattle.laws.specs.Accepted.{Valid}
 use Rattle.laws.specs.Lookups.{made-none}
 use Rattle.lists.specs.Contracts.{poses}
-use Rattle.meeting.specs.Contracts.{queryWith, Readable}
+use Rattle.meeting.specs.Contracts.{queryWith, Readable, Limited, limitAt}
 use Rattle.meeting.specs.declared.Done.{Done}
 use Rattle.stepping.specs.declared.rows.Turn.{Turn}
 use Rattle.stepping.specs.Contracts.{Keeps, Advancing}
-use Rattle.scored.specs.Contracts.{Limited, limitAt}
 use Rattle.stepping.specs.State.{ranking, State, Standing, Reached}
 use Rattle.scored.specs.Run.{stepsBy, reachBy, kindBy, searchBy, Stepped, Placed, Counted, Ran}
 use Rattle.laws.specs.Lists.{over-over}

@@ -34,8 +34,7 @@ use Rattle.laws.specs.Rounds.{none-met, rounds-turns, rounds-covers}
 use Rattle.laws.specs.Kept.{last-at}
 use Rattle.laws.specs.Overall.{joined-same}
 use Rattle.lists.specs.Contracts.{poses}
-use Rattle.meeting.specs.Contracts.{queryWith}
-use Rattle.scored.specs.Contracts.{limitAt}
+use Rattle.meeting.specs.Contracts.{queryWith, limitAt}
 use Rattle.stepping.specs.State.{ranking, State, Reached}
 use Rattle.scored.specs.Run.{stepsBy, reachBy, kindBy, searchBy}
 

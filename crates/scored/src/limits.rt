@@ -1,30 +1,11 @@
-// The threshold of a row or round, and the test against it.
-use meeting::wider;
+// The test against the threshold of a row or round.
+use meeting::limits::threshold;
 ghost use mathlib.Core.Path.{_≡_};
 ghost use mathlib.Core.Bool.{_&&_, _||_};
-ghost use Prim.Native.Nat.{_+_, _-_, _*_, _≤_, _<_};
+ghost use Prim.Native.Nat.{_-_, _≤_, _<_};
 ghost use lib.Dec.{leb, eqb};
 ghost use lib.ListN.{length, getD};
-ghost use Rattle.scored.specs.Contracts.{Limited, limitAt};
-
-// The overall score of the local scores at a position of each list.
-fn threshold(rule: u8, weights: [u32; 8], m: usize, n: usize, at: [usize; 8], scores: &[u16]) -> u32
-    requires { ⌜ Limited m n at weights (now scores) ⌝ }
-    ensures { λ r. ⌜ r ≡ limitAt rule weights m n at (now (scores .entry)) ⌝ }
-{
-    let mut acc: u32 = 0;
-    let mut i = 0;
-    while i < m {
-        let base = i * n;
-        let end = base + at[i];
-        let last = end - 1;
-        let x = wider(scores[last]);
-        let w = weights[i];
-        acc = meeting::join(rule, i, acc, x * w);
-        i += 1;
-    }
-    acc
-}
+ghost use Rattle.meeting.specs.Contracts.{Limited, limitAt};
 
 // The search ends after p rows or rounds: at the last row, or when at least k items are met and the k-th best score
 // is at or above the threshold.

@@ -38,7 +38,7 @@ pub fn meet(
     if times != 0 {
         return filled;
     }
-    let x = meeting::bound(false, item, n, m, n, rule, weights, scores, work);
+    let x = meeting::bound(false, item, n, m, n, rule, &weights, scores, work);
     shortlist::keep(d, x, k, filled, picks, lows)
 }
 

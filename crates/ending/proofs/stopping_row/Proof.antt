@@ -21,19 +21,19 @@ abbrev μ-loop : tie.MeasureT-loop
 
 loop-holds : tie.Need-loop-holds Inv-loop μ-loop
 loop-holds c =
-    let at-start = (c .before .before .before .before .before) in
+    let at-start = c .before .before .before .before .before in
     (asking-starts (at-start .pre .0) (at-start .pre .1), refl, refl)
 
 add-p : tie.Need-add-p Inv-loop μ-loop
 add-p c =
-    let at-start = (c .before .before .before .before .before .before .before) in
+    let at-start = c .before .before .before .before .before .before .before in
     omega (arith, c .loop-test .taken, at-start .pre .0 .legible .n-most)
 
 read-row-requires : tie.Need-read-row-requires Inv-loop μ-loop
 read-row-requires c κs =
-    let at-loop = (c .before .before .before) in
-    let in-turn = (c .before .before) in
-    let at-start = (c .before .before .before .before .before .before .before .before .before) in
+    let at-loop = c .before .before .before in
+    let in-turn = c .before .before in
+    let at-start = c .before .before .before .before .before .before .before .before .before in
     let asked = at-start .pre .0 in
     let least : 1 ≤ at-loop .loop .p + 1 = omega arith in
     let most : at-loop .loop .p + 1 ≤ at-start .args .n = omega (arith, in-turn .loop-test .taken) in
@@ -44,27 +44,27 @@ read-row-requires c κs =
 
 sub-top : tie.Need-sub-top Inv-loop μ-loop
 sub-top c =
-    let at-start = (c .before .before .before .before .before .before .before .before .before .before .before .before .before .before) in
+    let at-start = c .before .before .before .before .before .before .before .before .before .before .before .before .before .before in
     omega (arith, at-start .pre .0 .k-least)
 
 mul-top : tie.Need-mul-top Inv-loop μ-loop
 mul-top c =
-    let at-start = (c .before .before .before .before .before .before .before .before .before .before .before .before .before .before) in
+    let at-start = c .before .before .before .before .before .before .before .before .before .before .before .before .before .before in
     omega (arith, at-start .pre .0 .k-least, at-start .pre .0 .k-most, at-start .pre .0 .legible .n-most)
 
 slice-read-top : tie.Need-slice-read-top Inv-loop μ-loop
 slice-read-top c =
-    let at-start = (c .before .before .before .before .before .before .before .before .before .before .before .before .before .before .before) in
-    let after-read-row = (c .before .before .before .before .before) in
+    let at-start = c .before .before .before .before .before .before .before .before .before .before .before .before .before .before .before in
+    let after-read-row = c .before .before .before .before .before in
     omega (arith, at-start .pre .0 .k-least, after-read-row .read-row .ensures .led .tops-long)
 
 obstacle-requires : tie.Need-obstacle-requires Inv-loop μ-loop
 obstacle-requires c κs =
-    let at-loop = (c .before .before .before .before .before .before .before .before .before .before) in
-    let in-turn = (c .before .before .before .before .before .before .before .before .before) in
+    let at-loop = c .before .before .before .before .before .before .before .before .before .before in
+    let in-turn = c .before .before .before .before .before .before .before .before .before in
     let at-start =
     (c .before .before .before .before .before .before .before .before .before .before .before .before .before .before .before .before) in
-    let after-read-row = (c .before .before .before .before .before .before) in
+    let after-read-row = c .before .before .before .before .before .before in
     let asked = at-start .pre .0 in
     let now = after-read-row .read-row .ensures in (
       at-row (asked .legible) _ (omega arith) (omega (arith, in-turn .loop-test .taken)),
@@ -82,24 +82,24 @@ same-length-2 c = search needs
 
 returns : tie.Need-returns Inv-loop μ-loop
 returns c =
-    let at-loop = (c .before .before .before .before .before .before .before .before .before .before .before .before) in
-    let in-turn = (c .before .before .before .before .before .before .before .before .before .before .before) in
-    let after-read-row = (c .before .before .before .before .before .before .before .before) in
-    let after-obstacle = (c .before) in
+    let at-loop = c .before .before .before .before .before .before .before .before .before .before .before .before in
+    let in-turn = c .before .before .before .before .before .before .before .before .before .before .before in
+    let after-read-row = c .before .before .before .before .before .before .before .before in
+    let after-obstacle = c .before in
     asking-stops (at-loop .loop .inv .0) (in-turn .loop-test .taken) (after-read-row .read-row .ensures)
     (after-obstacle .obstacle .ensures) (c .if1 .taken)
 
 loop-less : tie.Need-loop-less Inv-loop μ-loop
 loop-less c =
-    let in-turn = (c .before .before .before .before .before .before .before .before .before .before .before) in
+    let in-turn = c .before .before .before .before .before .before .before .before .before .before .before in
     omega (arith, in-turn .loop-test .taken)
 
 loop-again : tie.Need-loop-again Inv-loop μ-loop
 loop-again c =
-    let at-loop = (c .before .before .before .before .before .before .before .before .before .before .before .before) in
-    let in-turn = (c .before .before .before .before .before .before .before .before .before .before .before) in
-    let after-read-row = (c .before .before .before .before .before .before .before .before) in
-    let after-obstacle = (c .before) in (
+    let at-loop = c .before .before .before .before .before .before .before .before .before .before .before .before in
+    let in-turn = c .before .before .before .before .before .before .before .before .before .before .before in
+    let after-read-row = c .before .before .before .before .before .before .before .before in
+    let after-obstacle = c .before in (
       asking-goes-on (at-loop .loop .inv .0) (in-turn .loop-test .taken) (after-read-row .read-row .ensures)
           (after-obstacle .obstacle .ensures) (c .if1 .left),
       search needs,
@@ -114,8 +114,8 @@ same-length-4 c = search needs
 
 returns-2 : tie.Need-returns-2 Inv-loop μ-loop
 returns-2 c =
-    let at-loop = (c .before) in
-    let at-start = (c .before .before .before .before .before .before .before) in
+    let at-loop = c .before in
+    let at-start = c .before .before .before .before .before .before .before in
     asking-ends (at-loop .loop .inv .0) (at-start .pre .0 .legible .row-least) (λ h. omega (arith, h, c .loop-test .left))
 
 pub stopping-row-spec : {M : Type 1} → statement M

@@ -16,11 +16,11 @@ abbrev highAbove : View → ℕ → ℕ → ℕ → Bool
 highAbove v p bar d = ltb bar (boundOf v true p d)
 
 abbrev Inv-loop : tie.InvT-loop
-Inv-loop p k bar m n rule weights scores work count₀ d₀ count d =
+Inv-loop p k bar m n rule scores work weights count₀ d₀ count d =
     (d ≤ n) × (count ≡ passing (highAbove (view m n rule weights scores work) p bar) d)
 
 abbrev μ-loop : tie.MeasureT-loop
-μ-loop p k bar m n rule weights scores work count₀ d₀ count d = n - d
+μ-loop p k bar m n rule scores work weights count₀ d₀ count d = n - d
 
 loop-holds : tie.Need-loop-holds Inv-loop μ-loop
 unfolding passing
@@ -28,9 +28,10 @@ loop-holds c = (omega arith, refl)
 
 bound-requires : tie.Need-bound-requires Inv-loop μ-loop
 bound-requires c κs =
-    let at-loop = (c .before) in
-    let at-start = (c .before .before .before .before) in
-    bound-asks (at-loop .loop .d) (at-start .pre) (c .loop-test .taken)
+    let at-loop = (c .before .before) in
+    let at-start = (c .before .before .before .before .before) in
+    let in-turn = (c .before) in
+    bound-asks (at-loop .loop .d) (at-start .pre) (in-turn .loop-test .taken)
 
 above-requires : tie.Need-above-requires Inv-loop μ-loop
 above-requires c κs = tt
@@ -38,12 +39,12 @@ above-requires c κs = tt
 add-count : tie.Need-add-count Inv-loop μ-loop
 unfolding passing boundOf
 add-count c =
-    let at-start = (c .before .before .before .before .before .before) in
-    let at-loop = (c .before .before .before) in
+    let at-start = (c .before .before .before .before .before .before .before) in
+    let at-loop = (c .before .before .before .before) in
     let after-bound = (c .before) in
-    let in-turn = (c .before .before) in
+    let in-turn = (c .before .before .before) in
     let a = at-start .args in
-    let v = view (a .m) (a .n) (a .rule) (a .weights) (a .scores .now) (a .work .now) in
+    let v = view (a .m) (a .n) (a .rule) (a .t7) (a .scores .now) (a .work .now) in
     let d = at-loop .loop .d in
     let high : after-bound .bound .result ≡ boundOf v true (a .p) d = after-bound .bound .ensures in
     let more : at-loop .loop .count + c .above .result ≡ passing (highAbove v (a .p) (a .bar)) (d + 1) =
@@ -52,24 +53,24 @@ add-count c =
 
 add-d : tie.Need-add-d Inv-loop μ-loop
 add-d c =
-    let in-turn = (c .before .before) in
-    let at-start = (c .before .before .before .before .before .before) in
+    let in-turn = (c .before .before .before) in
+    let at-start = (c .before .before .before .before .before .before .before) in
     omega (arith, in-turn .loop-test .taken, at-start .pre .n-most)
 
 loop-less : tie.Need-loop-less Inv-loop μ-loop
 loop-less c =
-    let in-turn = (c .before .before) in
+    let in-turn = (c .before .before .before) in
     omega (arith, in-turn .loop-test .taken)
 
 loop-again : tie.Need-loop-again Inv-loop μ-loop
 unfolding passing boundOf
 loop-again c =
-    let at-start = (c .before .before .before .before .before .before) in
-    let at-loop = (c .before .before .before) in
+    let at-start = (c .before .before .before .before .before .before .before) in
+    let at-loop = (c .before .before .before .before) in
     let after-bound = (c .before) in
-    let in-turn = (c .before .before) in
+    let in-turn = (c .before .before .before) in
     let a = at-start .args in
-    let v = view (a .m) (a .n) (a .rule) (a .weights) (a .scores .now) (a .work .now) in
+    let v = view (a .m) (a .n) (a .rule) (a .t7) (a .scores .now) (a .work .now) in
     let d = at-loop .loop .d in
     let high : after-bound .bound .result ≡ boundOf v true (a .p) d = after-bound .bound .ensures in (
       omega (arith, in-turn .loop-test .taken),

@@ -21,11 +21,11 @@ abbrev product : Bool → ℕ → ℕ → ℕ → List ℕ → List ℕ → List
 product high d depth n scores work weights i = readAt n scores work d depth (unread high n scores depth) i * getD weights i 0
 
 abbrev Inv-loop : tie.InvT-loop
-Inv-loop high d depth m n rule scores work weights acc₀ i₀ acc i =
+Inv-loop high d depth m n rule weights scores work acc₀ i₀ acc i =
     (i ≤ m) × (acc ≤ i * 65535000) × (acc ≡ joined rule (product high d depth n scores work weights) i)
 
 abbrev μ-loop : tie.MeasureT-loop
-μ-loop high d depth m n rule scores work weights acc₀ i₀ acc i = m - i
+μ-loop high d depth m n rule weights scores work acc₀ i₀ acc i = m - i
 
 -- what is joined is at most the sum
 join-most : (rule i a b : ℕ) → join rule i a b ≤ a + b
@@ -59,15 +59,14 @@ loop-holds c = (omega arith, omega arith, refl)
 
 local-score-requires : tie.Need-local-score-requires Inv-loop μ-loop
 local-score-requires c κs =
-    let at-start = c .before .before .before .before in
-    let in-turn = c in
-    (at-start .pre .0, in-turn .loop-test .taken)
+    let at-start = (c .before .before .before .before) in
+    (at-start .pre .0, c .loop-test .taken)
 
 product-most : (c : tie.After-local-score Inv-loop μ-loop)
-    → c .local-score .result * getD ((c .before .before .before .before .before) .args .t7) ((c .before .before) .loop .i) 0 ≤ 65535000
+    → c .local-score .result * getD ((c .before .before .before .before .before) .args .weights .now) ((c .before .before) .loop .i) 0 ≤ 65535000
 product-most c =
-    let at-start = c .before .before .before .before .before in
-    let at-loop = c .before .before in
+    let at-start = (c .before .before .before .before .before) in
+    let at-loop = (c .before .before) in
     let small = at-start .pre .1 in
     let read : c .local-score .result ≤ 65535 =
     rw (c .local-score .ensures) (read-most (at-start .args .n) (at-start .args .d) (at-start .args .depth) (at-loop .loop .i) (at-start .args .high)
@@ -75,42 +74,50 @@ product-most c =
     mul-le-mul read (small .weights-small (at-loop .loop .i))
 
 mul-w : tie.Need-mul-w Inv-loop μ-loop
-mul-w c = omega (arith, c .before .loop-test .taken, c .before .before .before .before .before .pre .0 .m-most)
+mul-w c =
+    let in-turn = (c .before) in
+    let at-start = (c .before .before .before .before .before) in
+    omega (arith, in-turn .loop-test .taken, at-start .pre .0 .m-most)
 
-array-read-w : tie.Need-array-read-w Inv-loop μ-loop
-array-read-w c = omega (arith, c .before .loop-test .taken, c .before .before .before .before .before .pre .0 .m-most)
+element-copy-out-w : tie.Need-element-copy-out-w Inv-loop μ-loop
+element-copy-out-w c =
+    let in-turn = (c .before) in
+    let at-start = (c .before .before .before .before .before) in
+    omega (arith, in-turn .loop-test .taken, at-start .pre .0 .m-most)
 
 mul-join : tie.Need-mul-join Inv-loop μ-loop
-mul-join c = omega (arith, product-most c)
+mul-join c = omega (arith, product-most (c .before))
 
 join-requires : tie.Need-join-requires Inv-loop μ-loop
 join-requires c κs =
-    let at-loop = c .before .before in
-    let at-start = c .before .before .before .before .before in
-    let in-turn = c .before in
-    omega (arith, product-most c, at-loop .loop .inv, at-start .pre .0 .m-most, in-turn .loop-test .taken)
+    let at-start = (c .before .before .before .before .before .before) in
+    let at-loop = (c .before .before .before) in
+    let in-turn = (c .before .before) in
+    omega (arith, product-most (c .before), at-loop .loop .inv, at-start .pre .0 .m-most, in-turn .loop-test .taken)
 
 add-i : tie.Need-add-i Inv-loop μ-loop
 add-i c =
-    let in-turn = c .before .before in
-    let at-start = c .before .before .before .before .before .before in
+    let at-start = (c .before .before .before .before .before .before .before) in
+    let in-turn = (c .before .before .before) in
     omega (arith, in-turn .loop-test .taken, at-start .pre .0 .m-most)
 
 loop-less : tie.Need-loop-less Inv-loop μ-loop
 loop-less c =
-    let in-turn = c .before .before in
+    let in-turn = (c .before .before .before) in
     omega (arith, in-turn .loop-test .taken)
 
 loop-again : tie.Need-loop-again Inv-loop μ-loop
 unfolding joined
 loop-again c =
-    let read = c .before in
-    let at-loop = c .before .before .before in
+    let at-start = (c .before .before .before .before .before .before .before) in
+    let at-loop = (c .before .before .before .before) in
+    let in-turn = (c .before .before .before) in
+    let read = (c .before .before) in
     let joins = c .join .ensures in
     let most =
-    join-most (c .before .before .before .before .before .before .args .rule) (at-loop .loop .i) (at-loop .loop .acc)
-    (read .local-score .result * getD (c .before .before .before .before .before .before .args .t7) (at-loop .loop .i) 0) in (
-      omega (arith, c .before .before .loop-test .taken),
+    join-most (at-start .args .rule) (at-loop .loop .i) (at-loop .loop .acc)
+    (read .local-score .result * getD (at-start .args .weights .now) (at-loop .loop .i) 0) in (
+      omega (arith, in-turn .loop-test .taken),
       omega (arith, product-most read, joins, most, at-loop .loop .inv .1),
       rw (add-one (at-loop .loop .i), ← (at-loop .loop .inv .2), ← (read .local-score .ensures)) joins,
     )
@@ -131,7 +138,7 @@ bound-spec =
     loop-holds
     local-score-requires
     mul-w
-    array-read-w
+    element-copy-out-w
     mul-join
     join-requires
     add-i

@@ -110,7 +110,7 @@ returns c =
           record {
             step = λ picks₀ lows₀ tally₀ at.
                 let s = poses (at-start .args .m) (at-start .args .n) items (at-start .args .scores .now) in
-                let q = queryWith (at-start .args .rule) (at-start .args .weights) in
+                let q = queryWith (at-start .args .rule) (at-start .args .t5) in
                 let some : getD (at-start .args .tally .now) (getD (at-start .args .work .now) (at-start .args .d) 0 - 1) 0 ≡ 0
                 → ⊥ = λ e. c .if1 .taken (read ∙ e) in
                 let old = met-told s q (at-start .args .work .now) v w tr tally₀ (at .tally-is) whole (at-start .args .d) small
@@ -122,13 +122,13 @@ returns c =
 
 bound-requires : tie.Need-bound-requires
 bound-requires c κs =
-    let after-wide = c .before .before .before .before .before .before .before .before in
-    let at-start = c .before .before .before .before .before .before .before .before .before .before .before .before .before .before in
+    let after-wide = c .before .before .before .before .before .before .before .before .before in
+    let at-start = c .before .before .before .before .before .before .before .before .before .before .before .before .before .before .before in
     rw (after-wide .wide .ensures) (at-start .pre .located, at-start .pre .small)
 
 keep-requires : tie.Need-keep-requires
 keep-requires c κs =
-    let at-start = c .before .before .before .before .before .before .before .before .before .before .before .before .before .before .before .before .before in
+    let at-start = c .before .before .before .before .before .before .before .before .before .before .before .before .before .before .before .before .before .before in
     at-start .pre .keeps
 
 same-length-2 : tie.Need-same-length-2
@@ -142,12 +142,12 @@ same-length-4 c = search needs
 
 returns-2 : tie.Need-returns-2
 returns-2 c =
-    let at-start = c .before .before .before .before .before .before .before .before .before .before .before .before .before .before .before .before .before .before .before .before .before .before in
-    let after-wide2 = c .before .before .before .before .before .before .before .before .before .before .before .before .before .before in
-    let else1 = c .before .before .before .before .before .before .before .before in
+    let at-start = c .before .before .before .before .before .before .before .before .before .before .before .before .before .before .before .before .before .before .before .before .before .before .before in
+    let after-wide2 = c .before .before .before .before .before .before .before .before .before .before .before .before .before .before .before in
+    let else1 = c .before .before .before .before .before .before .before .before .before in
     let after-bound = c .before .before .before .before .before .before .before in
-    let after-wide = c .before .before .before .before .before .before .before .before .before .before .before .before .before .before .before .before in
-    let after-visit = c .before .before .before .before .before .before .before .before .before .before .before in
+    let after-wide = c .before .before .before .before .before .before .before .before .before .before .before .before .before .before .before .before .before in
+    let after-visit = c .before .before .before .before .before .before .before .before .before .before .before .before in
     let after-keep = c .before .before .before .before in
     let small = at-start .pre .visitable .item-small in
     let read = ap (λ (x : ℕ). getD (at-start .args .tally .now) (x - 1) 0) (place-read after-wide2) in
@@ -156,7 +156,7 @@ returns-2 c =
           record {
             step = λ picks₀ lows₀ tally₀ at.
                 let s = poses (at-start .args .m) (at-start .args .n) items (at-start .args .scores .now) in
-                let q = queryWith (at-start .args .rule) (at-start .args .weights) in
+                let q = queryWith (at-start .args .rule) (at-start .args .t5) in
                 let fresh = met-told s q (at-start .args .work .now) v w tr tally₀ (at .tally-is) whole (at-start .args .d) small
                 ∙ lt-leb 1 (getD (at-start .args .tally .now) (getD (at-start .args .work .now) (at-start .args .d) 0 - 1) 0)
                 (omega (arith, sym read ∙ else1 .if1 .left)) in

@@ -1,4 +1,4 @@
--- `scored::limits::threshold` meets its contract. The loop's invariant: the accumulator is the joined products of the lists passed,
+-- `meeting::limits::threshold` meets its contract. The loop's invariant: the accumulator is the joined products of the lists passed,
 -- and is at most 65,535,000 for each of them; the measure is how many lists are left.
 -- Assumes nothing.
 use mathlib.Core.Path.{_≡_, refl, ap, _∙_}
@@ -10,9 +10,9 @@ use lib.ListN.{length, getD}
 use Rattle.model.specs.Given.{join, joined}
 use Rattle.laws.specs.Lists.{table-room}
 use Rattle.laws.specs.Overall.{join-most, product-most}
-use Rattle.scored.specs.Contracts.{limitAt}
-use Rattle.scored.proofs.limits.threshold.Statement.{statement}
-use Rattle.scored.proofs.limits.threshold.Tie as tie
+use Rattle.meeting.specs.Contracts.{limitAt}
+use Rattle.meeting.proofs.limits.threshold.Statement.{statement}
+use Rattle.meeting.proofs.limits.threshold.Tie as tie
 
 -- the product at a list's position
 abbrev productAt : ℕ → List ℕ → List ℕ → List ℕ → ℕ → ℕ
