@@ -14,8 +14,8 @@ use Rattle.lists.specs.Contracts.{ListsChecked}
 use Rattle.records.specs.declared.QueryRead.{QueryRead}
 use Rattle.records.specs.declared.ListsRead.{ListsRead}
 use Rattle.records.specs.Contracts.{QueryIsRead, ListsAreRead}
-use Rattle.searches.specs.declared.Answer.{Answer}
-use Rattle.searches.specs.Answered.{Searched}
+use Rattle.answering.specs.declared.Answer.{Answer}
+use Rattle.answering.specs.Answered.{Searched}
 use Rattle.capi.specs.Told.{checkNumbers, queryNumbers, listsNumbers, AnswerTold, SearchTold, CheckTold, QueryTold, ListsTold}
 
 pub search-told : {r : Poses → Query → Search} {l : Lent} {a : Answer} {number : ℕ} {told picks lows highs tally work : List ℕ}

@@ -15,7 +15,7 @@ use Rattle.model.specs.Searches.{Search}
 use Rattle.model.specs.Refusals.{Lent}
 use Rattle.model.specs.Answers.{Answer as AnswerValue, answer, slices, Told as ToldValue, checked, checkedWork}
 use Rattle.model.specs.Records.{QueryRead as QueryValue, readQuery, ListsRead as ListsValue, readLists, itemsAfter, scoresAfter, Record, theQuery, theLists, Part, chosen}
-use Rattle.searches.specs.declared.Answer.{Answer}
+use Rattle.answering.specs.declared.Answer.{Answer}
 
 -- a search: number, list, position, rows, and the sorted, direct and random accesses
 abbrev pub searchNumbers : AnswerValue → List ℕ

@@ -14,9 +14,9 @@ use Rattle.model.specs.Refusals.{Lent, posesOf, searchVerdict}
 use Rattle.model.specs.Answers.{told, answer, answering}
 use Rattle.model.specs.Program.{line, refusedLine}
 use Rattle.laws.specs.Verdicts.{by-verdict}
-use Rattle.searches.specs.declared.Answer.{Answer}
-use Rattle.searches.specs.Answered.{Searched}
-use Rattle.searches.specs.Promises.{accepted-call}
+use Rattle.answering.specs.declared.Answer.{Answer}
+use Rattle.answering.specs.Answered.{Searched}
+use Rattle.answering.specs.Promises.{accepted-call}
 use Rattle.text.specs.Contracts.{Appended, placesAt}
 use Rattle.text.specs.Appending.{appended-is}
 use Rattle.lines.specs.declared.Line.{Line}

@@ -19,7 +19,7 @@ use Rattle.model.specs.Refusals.{Verdict, accepted, refused, Lent, searchVerdic
 use Rattle.model.specs.Answers.{Place, told}
 use Rattle.model.specs.Program.{nameTA, nameBPA, nameBPA2, nameNRA, line, refusedLine, searchLine, printing, printed}
 use Rattle.running.specs.Contracts.{searchAt}
-use Rattle.searches.specs.declared.Answer.{Answer}
+use Rattle.answering.specs.declared.Answer.{Answer}
 use Rattle.records.specs.declared.QueryRead.{QueryRead}
 use Rattle.records.specs.Contracts.{QueryIsRead}
 use Rattle.text.specs.Contracts.{Appended}

@@ -24,10 +24,10 @@ use Rattle.laws.specs.Verdicts.{accepted≢refused, told-zero, by-verdict}
 use Rattle.laws.specs.Accepted.{Valid}
 use Rattle.demands.specs.Promise.{Owed}
 use Rattle.demands.specs.Promised.{promised}
-use Rattle.searches.specs.declared.Answer.{Answer}
-use Rattle.searches.specs.Answered.{Searched}
+use Rattle.answering.specs.declared.Answer.{Answer}
+use Rattle.answering.specs.Answered.{Searched}
 use Rattle.admission.specs.Shapes.{accepts, numbered-search}
-use Rattle.searches.specs.Promises.{accepted-is-zero}
+use Rattle.answering.specs.Promises.{accepted-is-zero}
 use Rattle.text.specs.Contracts.{placesAt}
 use Rattle.text.specs.Places.{places-are}
 use Rattle.text.specs.Lines.{refused-most, line-most}

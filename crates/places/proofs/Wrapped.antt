@@ -43,9 +43,9 @@ use denote.Exit.{yes}
 use Rattle.model.specs.Given.{Poses, Query}
 use Rattle.model.specs.Searches.{Search}
 use Rattle.running.specs.Contracts.{searchAt}
-use Rattle.searches.specs.declared.Answer.{Answer}
-use Rattle.searches.proofs.Answer as Ans
-use Rattle.searches.proofs.Answer.Laws as Ans′
+use Rattle.answering.specs.declared.Answer.{Answer}
+use Rattle.answering.proofs.Answer as Ans
+use Rattle.answering.proofs.Answer.Laws as Ans′
 use Rattle.places.specs.declared.Place.{Place}
 use Rattle.places.specs.Contracts.{lentRows, SearchedRows}
 use Rattle.places.proofs.Place as P

@@ -19,7 +19,7 @@ use Rattle.model.specs.Answers as model
 use Rattle.model.specs.Answers.{answer, slices}
 use Rattle.admission.specs.Contracts.{lentWith}
 use Rattle.running.specs.Contracts.{searchAt}
-use Rattle.searches.specs.declared.Answer.{Answer}
+use Rattle.answering.specs.declared.Answer.{Answer}
 use Rattle.places.specs.declared.Place.{Place}
 use Rattle.places.specs.declared.Kept.{Kept}
 use Rattle.places.specs.Rows.{placeAt, onto}

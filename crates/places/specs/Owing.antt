@@ -29,10 +29,10 @@ use Rattle.demands.specs.Promised.{promised}
 use Rattle.admission.specs.Contracts.{lentWith, shapeOf, shape-is}
 use Rattle.admission.specs.Shapes.{k-passes}
 use Rattle.running.specs.Contracts.{searchAt}
-use Rattle.searches.specs.declared.Answer.{Answer}
-use Rattle.searches.specs.Answered.{Searched}
-use Rattle.searches.specs.Promises.{accepted-is-zero, accepted-call, accepted-finds}
-use Rattle.searches.specs.Shortlists.{placeOf}
+use Rattle.answering.specs.declared.Answer.{Answer}
+use Rattle.answering.specs.Answered.{Searched}
+use Rattle.answering.specs.Promises.{accepted-is-zero, accepted-call, accepted-finds}
+use Rattle.answering.specs.Shortlists.{placeOf}
 use Rattle.places.specs.declared.Place.{Place}
 use Rattle.places.specs.Rows.{placeAt, nowhere, onto}
 use Rattle.places.specs.Contracts.{enoughOf, lesserOf, rowOf, lentRows, SearchedRows, Columned}

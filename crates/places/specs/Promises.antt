@@ -13,9 +13,9 @@ use Rattle.model.specs.Searches.{Search}
 use Rattle.model.specs.Refusals.{Verdict, accepted, refused, Lent, posesOf, searchVerdict}
 use Rattle.model.specs.Answers as model
 use Rattle.model.specs.Answers.{Found, found, searchOf, answer, answering, written, slices, slicesWith}
-use Rattle.searches.specs.declared.Answer.{Answer}
-use Rattle.searches.specs.Answered.{Searched}
-use Rattle.searches.specs.Promises.{answer-one-to-one}
+use Rattle.answering.specs.declared.Answer.{Answer}
+use Rattle.answering.specs.Answered.{Searched}
+use Rattle.answering.specs.Promises.{answer-one-to-one}
 use Rattle.places.specs.declared.Place.{Place}
 use Rattle.places.specs.Rows.{onto}
 use Rattle.places.specs.Contracts.{rowOf, lentRows, SearchedRows}

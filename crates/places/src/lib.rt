@@ -7,7 +7,7 @@ ghost use Rattle.model.specs.Words.{row};
 ghost use Rattle.model.specs.Searches.{TA, BPA, BPA2, NRA};
 ghost use Rattle.running.specs.Contracts.{searchAt};
 ghost use Rattle.admission.specs.Contracts.{lentWith};
-ghost use Rattle.searches.specs.Answered.{Searched};
+ghost use Rattle.answering.specs.Answered.{Searched};
 ghost use Rattle.places.specs.Rows.{placeAt, onto};
 ghost use Rattle.places.specs.Contracts.{enoughOf, lesserOf, lentRows, SearchedRows, Columned};
 

@@ -20,11 +20,11 @@ use Rattle.laws.specs.Verdicts.{first-refusal-all}
 use Rattle.laws.specs.Accepted.{Valid}
 use Rattle.laws.specs.Opened.{searches-opened}
 use Rattle.laws.specs.Cases.{caseA, caseB, caseC, caseD, caseE, cases-opened}
-use Rattle.searches.specs.declared.Answer.{Answer}
+use Rattle.answering.specs.declared.Answer.{Answer}
 use Rattle.admission.specs.Contracts.{shape-is}
-use Rattle.searches.specs.Answered.{Searched}
+use Rattle.answering.specs.Answered.{Searched}
 use Rattle.admission.specs.Shapes.{shape-passes, Accepts, accepts}
-use Rattle.searches.specs.Promises.{accepted-is-zero}
+use Rattle.answering.specs.Promises.{accepted-is-zero}
 
 and-no : (b : Bool) → (b && false) ≡ false
 and-no true = refl

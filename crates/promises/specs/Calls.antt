@@ -14,8 +14,8 @@ use Rattle.model.specs.Searches.{Search, stops}
 use Rattle.model.specs.Refusals.{Lent, posesOf, queryOf}
 use Rattle.laws.specs.Passing.{passing}
 use Rattle.laws.specs.Sums.{sum}
-use Rattle.searches.specs.declared.Answer.{Answer}
-use Rattle.searches.specs.Answered.{allTold, Searched}
+use Rattle.answering.specs.declared.Answer.{Answer}
+use Rattle.answering.specs.Answered.{allTold, Searched}
 
 -- A call of the search r over the pose set s, the query q and k, that was accepted: its answer, and the slices of shortlist and
 -- tally as it leaves them. What slices were lent, and what was in them, does not matter

@@ -28,8 +28,8 @@ use Rattle.laws.specs.Lookups.{made-none}
 use Rattle.lists.specs.Contracts.{poses}
 use Rattle.meeting.specs.Contracts.{queryWith, Readable, Limited, limitAt}
 use Rattle.meeting.specs.declared.Done.{Done}
+use Rattle.noting.specs.Contracts.{Keeps, Advancing}
 use Rattle.stepping.specs.declared.rows.Turn.{Turn}
-use Rattle.stepping.specs.Contracts.{Keeps, Advancing}
 use Rattle.stepping.specs.State.{ranking, State, Standing, Reached}
 use Rattle.scored.specs.Run.{stepsBy, reachBy, kindBy, searchBy, Stepped, Placed, Counted, Ran}
 use Rattle.laws.specs.Lists.{over-over}

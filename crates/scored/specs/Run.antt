@@ -18,8 +18,8 @@ use Rattle.model.specs.Accesses.{Kind, sorted, direct, random, Access, rowsTA, 
 use Rattle.model.specs.Searches.{Search, kept, rows, threshold, byScore, TA, BPA, BPA2}
 use Rattle.meeting.specs.Contracts.{Readable}
 use Rattle.meeting.specs.declared.Done.{Done}
+use Rattle.noting.specs.Contracts.{Keeps, walkedTo}
 use Rattle.stepping.specs.declared.rows.Turn.{Turn}
-use Rattle.stepping.specs.Contracts.{Keeps, walkedTo}
 use Rattle.stepping.specs.State.{Goes, Standing, Reached}
 
 -- the accesses of the first p rows of TA and BPA, or rounds of BPA2

@@ -6,14 +6,14 @@ use meeting::Direct;
 use meeting::Done;
 use meeting::Random;
 use meeting::Sorted;
+use noting::visits;
 use stepping::rows;
 use stepping::rows::Turn;
-use stepping::visits;
 ghost use mathlib.Core.Path.{_≡_};
 ghost use Prim.Native.Nat.{_+_, _*_, _≤_, _<_};
 ghost use Rattle.lists.specs.Contracts.{poses};
 ghost use Rattle.meeting.specs.Contracts.{queryWith};
-ghost use Rattle.stepping.specs.Contracts.{Advancing};
+ghost use Rattle.noting.specs.Contracts.{Advancing};
 ghost use Rattle.scored.specs.Run.{Stepping, Stepped, Counting, Counted, Placed, Running, Ran};
 
 // The numbers by which a search of this crate is called.

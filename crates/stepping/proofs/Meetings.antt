@@ -27,7 +27,7 @@ use Rattle.laws.specs.Ranking.{among-at, ranked-same, ranked-more, ranked-among
 use Rattle.laws.specs.Kept.{take-among}
 use Rattle.laws.specs.Overall.{joined-same}
 use Rattle.meeting.specs.Contracts.{readAt, unread}
-use Rattle.stepping.specs.Contracts.{visitedIn, visitedOnce, Listing}
+use Rattle.noting.specs.Contracts.{visitedIn, visitedOnce, Listing}
 use Rattle.stepping.specs.State.{ranking, State}
 use Rattle.stepping.specs.Steps.{mark-at}
 
@@ -101,7 +101,8 @@ module _ (s : Poses) (q : Query) (work : List ℕ) (v : Valid s) (w : Placed s w
           → ranking s q (tr ++ lookup s a i p) ≡ insert (ahead (total s q) (total s q)) d (ranking s q tr)
       unfolding ranking
       ranking-new new =
-          ranked-more (ahead (total s q) (total s q)) (ahead-ordering (total s q) (total s q)) (met s tr) (met s (tr ++ lookup s a i p)) (s .n) d hd new
+          ranked-more (ahead (total s q) (total s q)) (ahead-ordering (total s q) (total s q)) (met s tr) (met s (tr ++ lookup s a i p)) (s .n) d hd
+          new
           met-then
 
       -- an item that was not met is not among the first k

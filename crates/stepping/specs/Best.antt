@@ -16,7 +16,7 @@ use Rattle.laws.specs.Tests.{by-cases, first-same}
 use Rattle.laws.specs.Visits.{best-most, best-visited, visited-least}
 use Rattle.lists.specs.Contracts.{poses}
 use Rattle.meeting.specs.Contracts.{queryWith, Readable}
-use Rattle.stepping.specs.Contracts.{Walkable, walkedTo}
+use Rattle.noting.specs.Contracts.{Walkable, walkedTo}
 use Rattle.stepping.specs.State.{State}
 use Rattle.stepping.specs.Steps.{mark-at}
 

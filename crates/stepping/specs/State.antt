@@ -20,8 +20,8 @@ use Rattle.laws.specs.Accepted.{Valid, Placed}
 use Rattle.laws.specs.Meetings.{Whole}
 use Rattle.lists.specs.Contracts.{poses}
 use Rattle.meeting.specs.Contracts.{queryWith, Readable, Located, Small}
+use Rattle.noting.specs.Contracts.{Keeps, Listing, Visitable}
 use Rattle.stepping.specs.declared.rows.Turn.{Turn}
-use Rattle.stepping.specs.Contracts.{Keeps, Listing, Visitable}
 
 -- the items met, by score falling, then item rising
 unfoldable pub ranking : Poses → Query → List Access → List ℕ

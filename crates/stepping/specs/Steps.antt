@@ -19,7 +19,7 @@ use Rattle.laws.specs.Lookups.{times-append}
 use Rattle.laws.specs.Rows.{rows-most, row-within}
 use Rattle.lists.specs.Contracts.{poses}
 use Rattle.meeting.specs.Contracts.{queryWith, Readable, Located, Small}
-use Rattle.stepping.specs.Contracts.{Keeps, Visitable}
+use Rattle.noting.specs.Contracts.{Keeps, Visitable}
 use Rattle.stepping.specs.State.{ranking, State, Goes, Meeting, Standing}
 
 module _ {s : Poses} {q : Query} {k : ℕ} where

@@ -7,9 +7,9 @@ ghost use Rattle.laws.specs.Lookups.{once};
 ghost use Rattle.lists.specs.Contracts.{poses};
 ghost use Rattle.meeting.specs.Contracts.{queryWith};
 ghost use Rattle.stepping.specs.State.{Meeting, Met, Goes, Standing, Looking, Turned, Rounding, Rounded};
-use crate::shortlist;
-use crate::visits;
 use lists::wide;
+use noting::shortlist;
+use noting::visits;
 
 // Item d is found: one visit of its position in every list and, where it is new, its score and its place
 // in the shortlist. It is new where list 1 was never visited at its position. Gives how many are kept then.
@@ -28,7 +28,9 @@ pub fn meet(
     work: &[u16],
 ) -> usize
     requires { ⌜ Meeting d m n k filled weights (now scores) (now picks) (now lows) (now tally) (now work) ⌝ }
-    ensures { λ r. ⌜ Met d m n rule k filled weights (now (scores .entry)) (now (picks .entry)) (now (lows .entry)) (now (tally .entry)) (now (work .entry)) r (now (picks .exit)) (now (lows .exit)) (now (tally .exit)) ⌝ }
+    ensures { λ r. ⌜ Met d m n rule k filled weights (now (scores .entry)) (now (picks .entry))
+        (now (lows .entry)) (now (tally .entry)) (now (work .entry)) r (now (picks .exit)) (now (lows .exit))
+        (now (tally .exit)) ⌝ }
 {
     let item = wide(d);
     let place = wide(work[item]);
@@ -58,8 +60,14 @@ pub fn row(
     tally: &mut [u8],
     work: &[u16],
 ) -> usize
-    requires { ⌜ Standing (poses m n (now items) (now scores)) (queryWith rule weights) k (rowsTA (poses m n (now items) (now scores)) p) filled (now picks) (now lows) (now tally) (now work) × (p < n) ⌝ }
-    ensures { λ r. ⌜ Goes (poses m n (now (items .entry)) (now (scores .entry))) (queryWith rule weights) k (rowsTA (poses m n (now (items .entry)) (now (scores .entry))) p) (rowsTA (poses m n (now (items .entry)) (now (scores .entry))) (p + 1)) filled (now (picks .entry)) (now (lows .entry)) (now (tally .entry)) r (now (picks .exit)) (now (lows .exit)) (now (tally .exit)) ⌝ }
+    requires { ⌜ Standing (poses m n (now items) (now scores)) (queryWith rule weights) k
+        (rowsTA (poses m n (now items) (now scores)) p) filled (now picks) (now lows) (now tally) (now work)
+        × (p < n) ⌝ }
+    ensures { λ r. ⌜ Goes (poses m n (now (items .entry)) (now (scores .entry))) (queryWith rule weights) k
+        (rowsTA (poses m n (now (items .entry)) (now (scores .entry))) p)
+        (rowsTA (poses m n (now (items .entry)) (now (scores .entry))) (p + 1)) filled (now (picks .entry))
+        (now (lows .entry)) (now (tally .entry)) r (now (picks .exit)) (now (lows .exit)) (now (tally .exit))
+        ⌝ }
 {
     let mut kept = filled;
     let mut i = 0;
@@ -103,8 +111,11 @@ fn look(
     tally: &mut [u8],
     work: &[u16],
 ) -> usize
-    requires { ⌜ Looking i b (poses m n (now items) (now scores)) k filled weights (now picks) (now lows) (now tally) (now work) ⌝ }
-    ensures { λ r. ⌜ Turned i b (poses m n (now (items .entry)) (now (scores .entry))) (queryWith rule weights) k filled (now (picks .entry)) (now (lows .entry)) (now (tally .entry)) (now (work .entry)) r (now (picks .exit)) (now (lows .exit)) (now (tally .exit)) ⌝ }
+    requires { ⌜ Looking i b (poses m n (now items) (now scores)) k filled weights (now picks) (now lows)
+        (now tally) (now work) ⌝ }
+    ensures { λ r. ⌜ Turned i b (poses m n (now (items .entry)) (now (scores .entry)))
+        (queryWith rule weights) k filled (now (picks .entry)) (now (lows .entry)) (now (tally .entry))
+        (now (work .entry)) r (now (picks .exit)) (now (lows .exit)) (now (tally .exit)) ⌝ }
 {
     if b == n {
         return filled;
@@ -163,8 +174,11 @@ pub fn round(
     tally: &mut [u8],
     work: &[u16],
 ) -> Turn
-    requires { ⌜ Rounding (poses m n (now items) (now scores)) (queryWith rule weights) k filled best (now picks) (now lows) (now tally) (now work) ⌝ }
-    ensures { λ r. ⌜ Rounded (poses m n (now (items .entry)) (now (scores .entry))) (queryWith rule weights) k filled best (now (picks .entry)) (now (lows .entry)) (now (tally .entry)) (now (work .entry)) r (now (picks .exit)) (now (lows .exit)) (now (tally .exit)) ⌝ }
+    requires { ⌜ Rounding (poses m n (now items) (now scores)) (queryWith rule weights) k filled best
+        (now picks) (now lows) (now tally) (now work) ⌝ }
+    ensures { λ r. ⌜ Rounded (poses m n (now (items .entry)) (now (scores .entry))) (queryWith rule weights) k
+        filled best (now (picks .entry)) (now (lows .entry)) (now (tally .entry)) (now (work .entry)) r
+        (now (picks .exit)) (now (lows .exit)) (now (tally .exit)) ⌝ }
 {
     let mut kept = filled;
     let mut found: u32 = 0;

@@ -43,8 +43,8 @@ use denote.Triple.Walked.{says, Stays, stay-none, stay-none-slice, gave-slice, w
 use denote.Exit.{yes}
 use Rattle.model.specs.Words.{row}
 use Rattle.running.specs.Contracts.{searchAt}
-use Rattle.searches.proofs.Answer as Ans
-use Rattle.searches.proofs.Answer.Laws as Ans′
+use Rattle.answering.proofs.Answer as Ans
+use Rattle.answering.proofs.Answer.Laws as Ans′
 use Rattle.places.specs.declared.Place.{Place}
 use Rattle.places.specs.declared.Kept.{Kept}
 use Rattle.places.specs.Rows.{placeAt, onto}

@@ -12,7 +12,7 @@ use Rattle.model.specs.Given.{total}
 use Rattle.laws.specs.Lists.{table-room}
 use Rattle.lists.specs.Contracts.{poses}
 use Rattle.meeting.specs.Contracts.{queryWith}
-use Rattle.stepping.specs.Contracts.{visitedOnce}
+use Rattle.noting.specs.Contracts.{visitedOnce}
 use Rattle.stepping.specs.State.{ranking}
 use Rattle.stepping.proofs.Meetings.{score-is, met-told, not-kept, meets-again, meets-new}
 use Rattle.stepping.proofs.rows.meet.Statement.{statement}

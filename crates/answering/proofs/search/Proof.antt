@@ -1,4 +1,4 @@
--- `searches::search` meets its contract: refused by the tests, or run.
+-- `answering::search` meets its contract: refused by the tests, or run.
 -- Assumes nothing.
 use mathlib.Core.Path.{refl}
 use native.Mathlib.Omega.{arith}
@@ -6,9 +6,9 @@ use borrow.Author.Needs.{needs}
 use Rattle.model.specs.Refusals.{posesOf}
 use Rattle.admission.specs.Contracts.{lentWith}
 use Rattle.admission.specs.Passing.{passed}
-use Rattle.searches.proofs.Answering.{refused-answer, readable, search-answer}
-use Rattle.searches.proofs.search.Statement.{statement}
-use Rattle.searches.proofs.search.Tie as tie
+use Rattle.answering.proofs.Answering.{refused-answer, readable, search-answer}
+use Rattle.answering.proofs.search.Statement.{statement}
+use Rattle.answering.proofs.search.Tie as tie
 
 admit-requires : tie.Need-admit-requires
 admit-requires c κs = tt

@@ -21,10 +21,10 @@ use Rattle.running.specs.Contracts.{searchAt, Did, Runs}
 use Rattle.admission.specs.Passing.{Passed}
 use Rattle.meeting.specs.declared.Done.{Done}
 use Rattle.meeting.specs.Contracts.{queryWith, Readable, Ran}
-use Rattle.searches.specs.declared.Answer.{Answer}
+use Rattle.answering.specs.declared.Answer.{Answer}
 use Rattle.admission.specs.Contracts.{Decoded}
-use Rattle.searches.specs.Answered.{RefusedBy, Tells, Searched}
-use Rattle.searches.specs.Shortlists.{items-of, lows-of, highs-of}
+use Rattle.answering.specs.Answered.{RefusedBy, Tells, Searched}
+use Rattle.answering.specs.Shortlists.{items-of, lows-of, highs-of}
 use Rattle.admission.specs.Shapes.{numbered-search}
 
 pub refused-answer : (r : Poses → Query → Search) (l : Lent) (c : Checked) (a : Answer) (work : List ℕ) → RefusedBy c a

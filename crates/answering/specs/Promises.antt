@@ -16,11 +16,11 @@ use Rattle.model.specs.Accesses.{sorted, direct, random, made, tally}
 use Rattle.model.specs.Refusals.{Verdict, accepted, refused, Lent, posesOf, queryOf, searchVerdict}
 use Rattle.model.specs.Answers.{Found, found, foundAfter, told, searchOf, answer, answering, written, slices, slicesWith}
 use Rattle.laws.specs.Verdicts.{told-zero}
-use Rattle.searches.specs.declared.Answer.{Answer}
+use Rattle.answering.specs.declared.Answer.{Answer}
 use Rattle.meeting.specs.Contracts.{Ran}
-use Rattle.searches.specs.Answered.{Searched}
+use Rattle.answering.specs.Answered.{Searched}
 use Rattle.admission.specs.Shapes.{numbered-search, Accepts, accepts}
-use Rattle.searches.specs.Shortlists.{items-of, lows-of, highs-of}
+use Rattle.answering.specs.Shortlists.{items-of, lows-of, highs-of}
 
 -- an answer is its seven numbers
 pub answer-one-to-one : (a b : Answer) → a .number ≡ b .number → a .list ≡ b .list → a .position ≡ b .position → a .rows ≡ b .rows

@@ -1,9 +1,9 @@
--- `stepping::shortlist::keep` meets its contract: an item whose seat is past the last place is left out, any other is slid in.
+-- `noting::shortlist::keep` meets its contract: an item whose seat is past the last place is left out, any other is slid in.
 -- Assumes nothing.
 use borrow.Author.Needs.{needs}
-use Rattle.stepping.proofs.Keeping.{listing-out, listing-in}
-use Rattle.stepping.proofs.shortlist.keep.Statement.{statement}
-use Rattle.stepping.proofs.shortlist.keep.Tie as tie
+use Rattle.noting.proofs.Keeping.{listing-out, listing-in}
+use Rattle.noting.proofs.shortlist.keep.Statement.{statement}
+use Rattle.noting.proofs.shortlist.keep.Tie as tie
 
 seat-requires : tie.Need-seat-requires
 seat-requires c κs = search needs

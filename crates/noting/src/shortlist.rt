@@ -1,13 +1,14 @@
 // The shortlist in its two slices: items, and their scores, by score falling, then item rising.
 use meeting::seats;
 use meeting::sliding;
-ghost use Rattle.stepping.specs.Contracts.{Keeps, Inserted};
+ghost use Rattle.noting.specs.Contracts.{Keeps, Inserted};
 
 // Item d of score x into the first k, and how many there are then. Its score is both
 // its low and its high. Seat k means that it is not kept.
 pub fn keep(d: u16, x: u32, k: usize, filled: usize, picks: &mut [u16], lows: &mut [u32]) -> usize
     requires { ⌜ Keeps k filled (now picks) (now lows) ⌝ }
-    ensures { λ r. ⌜ Inserted d x k filled (now (picks .entry)) (now (lows .entry)) r (now (picks .exit)) (now (lows .exit)) ⌝ }
+    ensures { λ r. ⌜ Inserted d x k filled (now (picks .entry)) (now (lows .entry)) r (now (picks .exit))
+        (now (lows .exit)) ⌝ }
 {
     let at = seats::seat(d, x, x, filled, picks, lows, lows);
     if at == k {

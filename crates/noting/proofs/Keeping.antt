@@ -14,7 +14,7 @@ use Rattle.model.specs.Searches.{ahead, insert, among}
 use Rattle.laws.specs.Lists.{over-length}
 use Rattle.meeting.specs.Contracts.{Seated, slid}
 use Rattle.meeting.specs.Keeping.{Seat, seat-found, in-order-then, kept-out, size-then, items-then, numbers-then}
-use Rattle.stepping.specs.Contracts.{Keeps, Listing}
+use Rattle.noting.specs.Contracts.{Keeps, Listing}
 
 module _ {f : ℕ → ℕ} {l picks₀ lows₀ picks lows : List ℕ} {filled d x k r : ℕ} (at : Listing f l picks₀ lows₀ filled picks lows)
     (score : x ≡ f d) (new : among d l ≡ false) (room : Keeps k filled picks lows) (t : Seated d x x filled picks lows lows r) where

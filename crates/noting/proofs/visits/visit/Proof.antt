@@ -1,4 +1,4 @@
--- `stepping::visits::visit` meets its contract. The loop's invariant: the first i lists are visited (`visitedIn`), and the tally has
+-- `noting::visits::visit` meets its contract. The loop's invariant: the first i lists are visited (`visitedIn`), and the tally has
 -- its length; the measure is how many lists are left.
 -- Assumes nothing.
 use mathlib.Core.Path.{_≡_, refl, ap, _∙_}
@@ -6,10 +6,10 @@ use Prim.Native.Nat.{ℕ, _+_, _-_, _*_, _≤_, _<_}
 use native.Mathlib.Omega.{arith}
 use lib.ListN.{length, getD, length-set}
 use Rattle.laws.specs.Lists.{table-room}
-use Rattle.stepping.specs.Contracts.{visitedIn, visitedOnce}
-use Rattle.stepping.proofs.Visiting.{visiting-starts, visiting-goes-on, count-before}
-use Rattle.stepping.proofs.visits.visit.Statement.{statement}
-use Rattle.stepping.proofs.visits.visit.Tie as tie
+use Rattle.noting.specs.Contracts.{visitedIn, visitedOnce}
+use Rattle.noting.proofs.Visiting.{visiting-starts, visiting-goes-on, count-before}
+use Rattle.noting.proofs.visits.visit.Statement.{statement}
+use Rattle.noting.proofs.visits.visit.Tie as tie
 
 abbrev Inv-loop : tie.InvT-loop
 Inv-loop d m n tally₀ work i₀ tally i =

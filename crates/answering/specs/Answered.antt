@@ -12,7 +12,7 @@ use Rattle.model.specs.Refusals.{Lent}
 use Rattle.model.specs.Answers.{answer, slices}
 use Rattle.lists.specs.declared.Checked.{Checked}
 use Rattle.meeting.specs.declared.Done.{Done}
-use Rattle.searches.specs.declared.Answer.{Answer}
+use Rattle.answering.specs.declared.Answer.{Answer}
 
 -- the accesses of an answer, of whatever kind
 abbrev pub allTold : Answer → ℕ

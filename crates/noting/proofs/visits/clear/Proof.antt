@@ -1,4 +1,4 @@
--- `stepping::visits::clear` meets its contract. The loop's invariant: the first i entries are 0 and the rest as lent; the measure is
+-- `noting::visits::clear` meets its contract. The loop's invariant: the first i entries are 0 and the rest as lent; the measure is
 -- what is left of `size`.
 -- Assumes nothing.
 use mathlib.Core.Path.{_≡_, refl}
@@ -7,8 +7,8 @@ use Prim.Native.Nat.{_-_, _≤_}
 use lib.ListN.{length, drop, replicate, length-set}
 use native.Mathlib.Omega.{arith}
 use borrow.Author.Fill.{fill-more}
-use Rattle.stepping.proofs.visits.clear.Statement.{statement}
-use Rattle.stepping.proofs.visits.clear.Tie as tie
+use Rattle.noting.proofs.visits.clear.Statement.{statement}
+use Rattle.noting.proofs.visits.clear.Tie as tie
 
 abbrev Inv-loop : tie.InvT-loop
 Inv-loop tally₀ size i₀ tally i = (i ≤ size) × (length tally ≡ length tally₀) × (tally ≡ replicate i 0 ++ drop i tally₀)

@@ -1,4 +1,4 @@
--- The records that the contracts of `stepping` cite.
+-- The records that the contracts of `noting` cite.
 --     Keeps, Listing, Inserted       what an insertion asks; items in their order in both slices; what it promises
 --     Visitable, visitedOnce         what the visit of an item in every list asks; the tally afterwards
 --     Walkable, walkedTo             what a walk to a list's best position asks; where it ends

@@ -1,4 +1,4 @@
--- `stepping::visits::walk_on` meets its contract. The loop's invariant: every position before b was visited; the measure is what is
+-- `noting::visits::walk_on` meets its contract. The loop's invariant: every position before b was visited; the measure is what is
 -- left of the list.
 -- Assumes nothing.
 use mathlib.Core.Path.{_≡_}
@@ -7,9 +7,9 @@ use native.Mathlib.Omega.{arith}
 use lib.ListN.{length, getD}
 use borrow.Author.Count.{below-more}
 use Rattle.laws.specs.Lists.{table-room}
-use Rattle.stepping.proofs.Visiting.{walked-is}
-use Rattle.stepping.proofs.visits.walk_on.Statement.{statement}
-use Rattle.stepping.proofs.visits.walk_on.Tie as tie
+use Rattle.noting.proofs.Visiting.{walked-is}
+use Rattle.noting.proofs.visits.walk_on.Statement.{statement}
+use Rattle.noting.proofs.visits.walk_on.Tie as tie
 
 abbrev Inv-loop : tie.InvT-loop
 Inv-loop i m n from tally base b₀ b = (b ≤ n) × ((p : ℕ) → p < b → getD tally (i * n + p) 0 ≡ 0 → ⊥)

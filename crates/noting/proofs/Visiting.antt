@@ -18,7 +18,7 @@ use Rattle.model.specs.Words.{first, table, over}
 use Rattle.laws.specs.Tests.{by-cases, first-is, first-most, first-passes}
 use Rattle.laws.specs.Lists.{table-length, table-room, table-at, table-same, table-set, table-of, over-at}
 use Rattle.laws.specs.Lookups.{once}
-use Rattle.stepping.specs.Contracts.{visitedIn, walkedTo}
+use Rattle.noting.specs.Contracts.{visitedIn, walkedTo}
 
 pub over-set : (l s : List ℕ) (x v : ℕ) → x < length l → set (over l s) x v ≡ over (set l x v) s
 unfolding over

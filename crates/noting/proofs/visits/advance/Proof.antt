@@ -1,4 +1,4 @@
--- `stepping::visits::advance` meets its contract. The loop's invariant: the first i lists are walked, the others stand as given; the
+-- `noting::visits::advance` meets its contract. The loop's invariant: the first i lists are walked, the others stand as given; the
 -- measure is how many lists are left.
 -- Assumes nothing.
 use mathlib.Core.Path.{_≡_, refl, _∙_}
@@ -9,9 +9,9 @@ use lib.ListN.{length, getD, length-set}
 use lib.Seq.{getD-set-same, getD-set-other}
 use borrow.Author.Needs.{needs}
 use Rattle.laws.specs.Tests.{below-suc}
-use Rattle.stepping.specs.Contracts.{walkedTo}
-use Rattle.stepping.proofs.visits.advance.Statement.{statement}
-use Rattle.stepping.proofs.visits.advance.Tie as tie
+use Rattle.noting.specs.Contracts.{walkedTo}
+use Rattle.noting.proofs.visits.advance.Statement.{statement}
+use Rattle.noting.proofs.visits.advance.Tie as tie
 
 abbrev Inv-loop : tie.InvT-loop
 Inv-loop m n tally next₀ i₀ next i =
