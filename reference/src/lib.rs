@@ -9,6 +9,7 @@
 pub mod cases;
 pub mod compare;
 pub mod lists;
+pub mod measured;
 pub mod preview;
 pub mod records;
 pub mod searches;

@@ -2,6 +2,7 @@
 
 use rutlark_reference::cases::{self, expected_of, format::read_first, Recorded};
 use rutlark_reference::compare::{Comparison, Failure};
+use rutlark_reference::measured::{bytes_of, measured, set_of, Kind};
 use rutlark_reference::preview::{preview, MOST_BYTES_TAKEN};
 use std::io::{self, Read, Write};
 use std::path::Path;
@@ -12,7 +13,10 @@ const USAGE: &str = "usage: reference preview < input
        reference check DIR
        reference run < cases
        reference titles
-       reference compare HARNESS.. [--calls N] [--seed S] [--first D]";
+       reference compare HARNESS.. [--calls N] [--seed S] [--first D]
+       reference set KIND M N SEED
+       reference accesses KIND M N K SETS
+KIND is uniform, or alpha=A with A thousandths";
 
 /// The two files by the names under which the crate of a program holds what it is run on and what
 /// it must write.
@@ -29,6 +33,8 @@ fn main() -> ExitCode {
         ["run"] => run_cases(),
         ["titles"] => print_titles(),
         ["compare", _, ..] => return compare(&words[1..]),
+        ["set", kind, m, n, seed] => print_set(kind, [m, n, seed]),
+        ["accesses", kind, m, n, k, sets] => print_accesses(kind, [m, n, k, sets]),
         _ => {
             eprintln!("{USAGE}");
             return ExitCode::from(2);
@@ -166,6 +172,34 @@ fn print_titles() -> Result<(), String> {
         .map(|(at, one)| format!("{} {}\n", at + 1, one.title))
         .collect();
     print(titles.as_bytes())
+}
+
+/// The words as numbers, with a set's kind and sizes.
+fn set_asked<const N: usize>(kind: &str, numbers: [&str; N]) -> Result<(Kind, [usize; N]), String> {
+    let kind = Kind::named(kind).ok_or(USAGE)?;
+    let mut asked = [0; N];
+    for (number, word) in asked.iter_mut().zip(numbers) {
+        *number = word.parse().map_err(|_| USAGE)?;
+    }
+    let in_range = (1..=8).contains(&asked[0]) && (1..=1_024).contains(&asked[1]);
+    in_range.then_some((kind, asked)).ok_or(USAGE.to_string())
+}
+
+fn print_set(kind: &str, numbers: [&str; 3]) -> Result<(), String> {
+    let (kind, [m, n, seed]) = set_asked(kind, numbers)?;
+    print(&bytes_of(&set_of(kind, m, n, seed as u64)))
+}
+
+/// The means of the four searches in a line, in their order, then what each needed at most.
+fn print_accesses(kind: &str, numbers: [&str; 4]) -> Result<(), String> {
+    let (kind, [m, n, k, sets]) = set_asked(kind, numbers)?;
+    if k < 1 || n < k || sets < 1 {
+        return Err(USAGE.to_string());
+    }
+    let measured = measured(kind, m, n, k, sets as u64);
+    let means = measured.means.map(|mean| format!("{mean:.1}"));
+    let greatest = measured.greatest.map(|count| count.to_string());
+    print(format!("{} {}\n", means.join(" "), greatest.join(" ")).as_bytes())
 }
 
 /// Status 0 where all agree, 1 where something differs, 2 where there is nothing to compare with.

@@ -88,7 +88,13 @@ pub fn set_of(generator: &mut Generator, family: Family, m: usize, n: usize) -> 
         Family::SameLists => Shape::SameLists,
         Family::GreatestValues => return greatest_values(generator, m, n),
         Family::Gaussian => return gaussian(generator, m, n),
-        Family::Correlated => return correlated(generator, m, n),
+        Family::Correlated => {
+            let first = in_random_order(generator, n);
+            let alpha = [1, 10, 100, 500, 1_000][generator.between(0, 4)];
+            let mut set = correlated(generator, m, first, alpha);
+            score_by_zipf(&mut set, || generator.score_up_to(65_535));
+            return set;
+        }
         _ => {
             let scores = SCORES[generator.between(0, SCORES.len() - 1)];
             return set_of(generator, scores, m, n);
@@ -123,15 +129,24 @@ fn gaussian(generator: &mut Generator, m: usize, n: usize) -> OwnedSet {
     set
 }
 
-/// As document 000, section 6.1, makes them. The first list has the items in random order. In each
-/// other an item goes to a distance r from its position there, r from 1 to n times alpha, or to
-/// the nearest position that is free; the scores follow Zipf's law with 0.7.
-fn correlated(generator: &mut Generator, m: usize, n: usize) -> OwnedSet {
-    let mut set = OwnedSet::flat(m, n, 0);
-    generator.shuffle(&mut set.items[..n]);
-    let alpha_in_thousandths = [1, 10, 100, 500, 1_000][generator.between(0, 4)];
+pub fn in_random_order(generator: &mut Generator, n: usize) -> Vec<u16> {
+    let mut items: Vec<u16> = (0..n as u16).collect();
+    generator.shuffle(&mut items);
+    items
+}
+
+/// As document 000, section 6.1, makes them, with alpha in thousandths and no scores yet. The first
+/// list is given. In each other an item goes to a distance r from its position there, r from 1 to n
+/// times alpha, or to the nearest position that is free.
+pub fn correlated(
+    generator: &mut Generator,
+    m: usize,
+    first: Vec<u16>,
+    alpha_in_thousandths: usize,
+) -> OwnedSet {
+    let n = first.len();
     let farthest = (n * alpha_in_thousandths / 1_000).max(1);
-    let first: Vec<u16> = set.items[..n].to_vec();
+    let mut set = OwnedSet::flat(m, n, 0);
     for list in 1..m {
         let mut placed: Vec<Option<u16>> = vec![None; n];
         for (at, &item) in first.iter().enumerate() {
@@ -143,14 +158,19 @@ fn correlated(generator: &mut Generator, m: usize, n: usize) -> OwnedSet {
             set.items[list * n + at] = item.expect("as many positions as items");
         }
     }
-    let shares: Vec<u32> = (1..=n).map(|rank| u32::from(zipf(rank))).collect();
-    for scores in set.scores.chunks_exact_mut(n) {
-        let greatest = u32::from(generator.score_up_to(65_535));
+    set.items[..n].copy_from_slice(&first);
+    set
+}
+
+/// The scores of each list follow Zipf's law with 0.7, from the list's greatest down.
+pub fn score_by_zipf(set: &mut OwnedSet, mut greatest_of_a_list: impl FnMut() -> u16) {
+    let shares: Vec<u32> = (1..=set.n).map(|rank| u32::from(zipf(rank))).collect();
+    for scores in set.scores.chunks_exact_mut(set.n) {
+        let greatest = u32::from(greatest_of_a_list());
         for (score, share) in scores.iter_mut().zip(&shares) {
             *score = (greatest * share / 65_535) as u16;
         }
     }
-    set
 }
 
 /// A position at the distance drawn, on either side, and inside the list.

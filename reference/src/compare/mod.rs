@@ -4,7 +4,7 @@
 mod calls;
 mod counts;
 mod drawn;
-mod families;
+pub mod families;
 
 use calls::{Calls, Expected, FUNCTIONS};
 use counts::Counts;
