@@ -33,7 +33,7 @@ fn consider(
     m: usize,
     n: usize,
     rule: u8,
-    weights: [u32; 8],
+    weights: &[u32; 8],
     scores: &[u16],
     work: &[u16],
     marks: &[u32],
@@ -41,10 +41,11 @@ fn consider(
     lows: &mut [u32],
     highs: &mut [u32],
 ) -> usize
-    requires { ⌜ Legible (view m n rule weights (now scores) (now work)) p
-        × Marked (view m n rule weights (now scores) (now work)) p (now marks) × (d < n)
+    requires { ⌜ Legible (view m n rule (now weights) (now scores) (now work)) p
+        × Marked (view m n rule (now weights) (now scores) (now work)) p (now marks) × (d < n)
         × Keeps k filled (now picks) (now lows) (now highs) ⌝ }
-    ensures { λ r. ⌜ Considered (view m n rule weights (now (scores .entry)) (now (work .entry))) k p
+    ensures { λ r. ⌜ Considered (view m n rule (now (weights .entry)) (now (scores .entry))
+        (now (work .entry))) k p
         (top - 1) d filled (now (picks .entry)) (now (lows .entry)) (now (highs .entry)) r (now (picks .exit))
         (now (lows .exit)) (now (highs .exit)) ⌝ }
 {
@@ -55,7 +56,7 @@ fn consider(
     if own == 0 {
         return filled;
     }
-    let high = bound(true, d, p, m, n, rule, &weights, scores, work);
+    let high = bound(true, d, p, m, n, rule, weights, scores, work);
     keep(narrow(d), own - 1, high, k, filled, picks, lows, highs)
 }
 
@@ -95,7 +96,7 @@ fn rank(
             m,
             n,
             rule,
-            weights,
+            &weights,
             scores,
             work,
             marks,

@@ -44,15 +44,15 @@ fn in_the_way(
     m: usize,
     n: usize,
     rule: u8,
-    weights: [u32; 8],
+    weights: &[u32; 8],
     scores: &[u16],
     work: &[u16],
 ) -> bool
-    requires { ⌜ Legible (view m n rule weights (now scores) (now work)) p × (d < n)
-        × (own ≡ markOf (view m n rule weights (now scores) (now work)) p d)
-        × (unmet ≡ unmetOf (view m n rule weights (now scores) (now work)) p) ⌝ }
-    ensures { λ r. ⌜ r ≡ not (passesOf (view m n rule weights (now (scores .entry)) (now (work .entry))) p bar
-        d) ⌝ }
+    requires { ⌜ Legible (view m n rule (now weights) (now scores) (now work)) p × (d < n)
+        × (own ≡ markOf (view m n rule (now weights) (now scores) (now work)) p d)
+        × (unmet ≡ unmetOf (view m n rule (now weights) (now scores) (now work)) p) ⌝ }
+    ensures { λ r. ⌜ r ≡ not (passesOf (view m n rule (now (weights .entry)) (now (scores .entry))
+        (now (work .entry))) p bar d) ⌝ }
 {
     if own == 0 {
         return bar < unmet;
@@ -60,7 +60,7 @@ fn in_the_way(
     if bar < own {
         return false;
     }
-    bar < bound(true, d, p, m, n, rule, &weights, scores, work)
+    bar < bound(true, d, p, m, n, rule, weights, scores, work)
 }
 
 // The first item from `from` on and before `to` that stands in the way of stopping after p rows, or `to`.
@@ -95,7 +95,7 @@ pub fn blocker(
             m,
             n,
             rule,
-            weights,
+            &weights,
             scores,
             work,
         ) {

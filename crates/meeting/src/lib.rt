@@ -92,7 +92,8 @@ fn local_score(
 }
 
 // Item d's overall score with what the first `depth` positions of each list tell: its low, or its high.
-// At depth n every local score is read, and both are its overall score.
+// At depth n every local score is read, and both are its overall score. The weights are lent, so that a loop
+// over items does not copy them for each.
 pub fn bound(
     high: bool,
     d: usize,

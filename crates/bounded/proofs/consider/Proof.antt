@@ -26,7 +26,7 @@ returns-2 c =
 
 bound-requires : tie.Need-bound-requires
 bound-requires c κs =
-    let at-start = c .before .before .before .before .before .before .before .before .before .before in
+    let at-start = c .before .before .before .before .before .before .before .before .before in
     bound-asks (at-start .args .d) (at-start .pre .0) (at-start .pre .2)
 
 narrow-requires : tie.Need-narrow-requires
@@ -50,9 +50,9 @@ same-length-3 c = search needs
 returns-3 : tie.Need-returns-3
 unfolding boundOf
 returns-3 c =
-    let at-start = c .before .before .before .before .before .before .before .before .before .before .before .before .before .before .before .before .before .before .before .before .before .before in
-    let not-less = c .before .before .before .before .before .before .before .before .before .before .before .before .before .before in
-    let not-none = c .before .before .before .before .before .before .before .before .before .before .before .before .before in
+    let at-start = c .before .before .before .before .before .before .before .before .before .before .before .before .before .before .before .before .before .before .before .before .before in
+    let not-less = c .before .before .before .before .before .before .before .before .before .before .before .before .before in
+    let not-none = c .before .before .before .before .before .before .before .before .before .before .before .before in
     let after-bound = c .before .before .before .before .before .before .before .before .before .before .before in
     let after-narrow = c .before .before .before .before .before .before .before .before .before .before in
     let after-keep = c .before .before .before .before .before .before in

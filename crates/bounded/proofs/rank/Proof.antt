@@ -13,27 +13,27 @@ use Rattle.bounded.proofs.rank.Statement.{statement}
 use Rattle.bounded.proofs.rank.Tie as tie
 
 abbrev Inv-loop : tie.InvT-loop
-Inv-loop p k top m n rule weights scores work marks picks₀ lows₀ highs₀ filled₀ d₀ picks lows highs filled d =
+Inv-loop p k top m n rule scores work marks picks₀ lows₀ highs₀ weights filled₀ d₀ picks lows highs filled d =
     (d ≤ n) × (length picks ≡ length picks₀) × (length lows ≡ length lows₀) × (length highs ≡ length highs₀)
     × Passed (view m n rule weights scores work) k p (top - 1) d picks₀ lows₀ highs₀ filled picks lows highs
 
 abbrev μ-loop : tie.MeasureT-loop
-μ-loop p k top m n rule weights scores work marks picks₀ lows₀ highs₀ filled₀ d₀ picks lows highs filled d = n - d
+μ-loop p k top m n rule scores work marks picks₀ lows₀ highs₀ weights filled₀ d₀ picks lows highs filled d = n - d
 
 loop-holds : tie.Need-loop-holds Inv-loop μ-loop
 loop-holds c =
     let at-start = c .before .before .before .before .before .before in
     let a = at-start .args in
-    let v = view (a .m) (a .n) (a .rule) (a .weights) (a .scores .now) (a .work .now) in
+    let v = view (a .m) (a .n) (a .rule) (a .t7) (a .scores .now) (a .work .now) in
     (omega arith, refl, refl, refl, passed-none v (a .k) (a .p) (a .top - 1) (a .picks .now) (a .lows .now) (a .highs .now))
 
 consider-requires : tie.Need-consider-requires Inv-loop μ-loop
 consider-requires c κs =
-    let at-start = c .before .before .before .before .before .before .before .before .before .before .before in
-    let at-loop = c .before .before .before .before in
-    let in-turn = c .before .before .before in
+    let at-start = c .before .before .before .before .before .before .before .before .before .before .before .before in
+    let at-loop = c .before .before .before .before .before in
+    let in-turn = c .before .before .before .before in
     let a = at-start .args in
-    let v = view (a .m) (a .n) (a .rule) (a .weights) (a .scores .now) (a .work .now) in
+    let v = view (a .m) (a .n) (a .rule) (a .t7) (a .scores .now) (a .work .now) in
     let inv = at-loop .loop .inv in
     let room = at-start .pre .3 in (
       at-start .pre .0,
@@ -52,21 +52,21 @@ consider-requires c κs =
 
 add-d : tie.Need-add-d Inv-loop μ-loop
 add-d c =
-    let in-turn = c .before .before .before .before .before .before .before .before .before .before in
-    let at-start = c .before .before .before .before .before .before .before .before .before .before .before .before .before .before .before .before .before .before in
+    let in-turn = c .before .before .before .before .before .before .before .before .before .before .before in
+    let at-start = c .before .before .before .before .before .before .before .before .before .before .before .before .before .before .before .before .before .before .before in
     omega (arith, in-turn .loop-test .taken, at-start .pre .0 .n-most)
 
 loop-less : tie.Need-loop-less Inv-loop μ-loop
 loop-less c =
-    let in-turn = c .before .before .before .before .before .before .before .before .before .before in
+    let in-turn = c .before .before .before .before .before .before .before .before .before .before .before in
     omega (arith, in-turn .loop-test .taken)
 
 loop-again : tie.Need-loop-again Inv-loop μ-loop
 loop-again c =
-    let at-start = c .before .before .before .before .before .before .before .before .before .before .before .before .before .before .before .before .before .before in
-    let at-loop = c .before .before .before .before .before .before .before .before .before .before .before in
+    let at-start = c .before .before .before .before .before .before .before .before .before .before .before .before .before .before .before .before .before .before .before in
+    let at-loop = c .before .before .before .before .before .before .before .before .before .before .before .before in
     let after-consider = c .before .before .before .before .before .before in
-    let in-turn = c .before .before .before .before .before .before .before .before .before .before in
+    let in-turn = c .before .before .before .before .before .before .before .before .before .before .before in
     let a = at-start .args in
     let inv = at-loop .loop .inv in
     let kept = after-consider .consider .kept in (

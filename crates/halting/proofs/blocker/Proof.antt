@@ -13,11 +13,11 @@ use Rattle.halting.proofs.blocker.Statement.{statement}
 use Rattle.halting.proofs.blocker.Tie as tie
 
 abbrev Inv-loop : tie.InvT-loop
-Inv-loop from to p bar unmet m n rule weights scores work marks d₀ d =
+Inv-loop from to p bar unmet m n rule scores work marks weights d₀ d =
     (from ≤ d) × (d ≤ to) × ((x : ℕ) → from ≤ x → x < d → passesOf (view m n rule weights scores work) p bar x ≡ true)
 
 abbrev μ-loop : tie.MeasureT-loop
-μ-loop from to p bar unmet m n rule weights scores work marks d₀ d = to - d
+μ-loop from to p bar unmet m n rule scores work marks weights d₀ d = to - d
 
 loop-holds : tie.Need-loop-holds Inv-loop μ-loop
 loop-holds c =
@@ -38,19 +38,19 @@ shared-slice-read-in-the-way c =
 
 in-the-way-requires : tie.Need-in-the-way-requires Inv-loop μ-loop
 in-the-way-requires c κs =
-    let at-loop = c .before .before in
-    let in-turn = c .before in
-    let at-start = c .before .before .before .before .before .before in
+    let at-loop = c .before .before .before in
+    let in-turn = c .before .before in
+    let at-start = c .before .before .before .before .before .before .before in
     let inside : at-loop .loop .d < at-start .args .n = omega (arith, in-turn .loop-test .taken, at-start .pre .4) in
     (at-start .pre .0, inside, at-start .pre .1 .marks-are (at-loop .loop .d) inside, at-start .pre .2)
 
 returns : tie.Need-returns Inv-loop μ-loop
 returns c =
-    let at-start = c .before .before .before .before .before .before .before .before in
-    let at-loop = c .before .before .before .before in
+    let at-start = c .before .before .before .before .before .before .before .before .before in
+    let at-loop = c .before .before .before .before .before in
     let after-in-the-way = c .before in
     let a = at-start .args in
-    let v = view (a .m) (a .n) (a .rule) (a .weights) (a .scores .now) (a .work .now) in
+    let v = view (a .m) (a .n) (a .rule) (a .t9) (a .scores .now) (a .work .now) in
     record {
       least = at-loop .loop .inv .0;
       most = at-loop .loop .inv .1;
@@ -60,23 +60,23 @@ returns c =
 
 add-d : tie.Need-add-d Inv-loop μ-loop
 add-d c =
-    let in-turn = c .before .before .before in
-    let at-start = c .before .before .before .before .before .before .before .before in
+    let in-turn = c .before .before .before .before in
+    let at-start = c .before .before .before .before .before .before .before .before .before in
     omega (arith, in-turn .loop-test .taken, at-start .pre .4, at-start .pre .0 .n-most)
 
 loop-less : tie.Need-loop-less Inv-loop μ-loop
 loop-less c =
-    let in-turn = c .before .before .before in
+    let in-turn = c .before .before .before .before in
     omega (arith, in-turn .loop-test .taken)
 
 loop-again : tie.Need-loop-again Inv-loop μ-loop
 loop-again c =
-    let at-start = c .before .before .before .before .before .before .before .before in
-    let at-loop = c .before .before .before .before in
+    let at-start = c .before .before .before .before .before .before .before .before .before in
+    let at-loop = c .before .before .before .before .before in
     let after-in-the-way = c .before in
-    let in-turn = c .before .before .before in
+    let in-turn = c .before .before .before .before in
     let a = at-start .args in
-    let v = view (a .m) (a .n) (a .rule) (a .weights) (a .scores .now) (a .work .now) in
+    let v = view (a .m) (a .n) (a .rule) (a .t9) (a .scores .now) (a .work .now) in
     let d = at-loop .loop .d in
     let passes = not-false (passesOf v (a .p) (a .bar) d) (sym (after-in-the-way .in-the-way .ensures) ∙ c .if1 .left) in (
       omega (arith, at-loop .loop .inv .0),

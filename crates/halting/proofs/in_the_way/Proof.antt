@@ -22,7 +22,7 @@ returns : tie.Need-returns
 returns c =
     let at-start = c .before .before .before in
     let a = at-start .args in
-    let v = view (a .m) (a .n) (a .rule) (a .t9) (a .scores .now) (a .work .now) in
+    let v = view (a .m) (a .n) (a .rule) (a .weights .now) (a .scores .now) (a .work .now) in
     let none : markOf v (a .p) (a .d) ≡ 0 = sym (at-start .pre .2) ∙ c .if1 .taken in
     ap (ltb (a .bar)) (at-start .pre .3 ∙ sym (unmet-high (at-start .pre .0) (a .d) none))
     ∙ low-under (at-start .pre .0) (a .bar) (a .d) (omega (arith, none))
@@ -31,22 +31,22 @@ returns-2 : tie.Need-returns-2
 returns-2 c =
     let at-start = c .before .before .before .before in
     let a = at-start .args in
-    let v = view (a .m) (a .n) (a .rule) (a .t9) (a .scores .now) (a .work .now) in
+    let v = view (a .m) (a .n) (a .rule) (a .weights .now) (a .scores .now) (a .work .now) in
     sym (rw (lt-leb (markOf v (a .p) (a .d)) (a .bar) (omega (arith, at-start .pre .2, c .if2 .taken)))
     (and-false (ltb (a .bar) (boundOf v true (a .p) (a .d)))))
     ∙ blocks-not (at-start .pre .0) (a .bar) (a .d)
 
 bound-requires : tie.Need-bound-requires
 bound-requires c κs =
-    let at-start = c .before .before .before .before .before in
+    let at-start = c .before .before .before .before in
     let read = at-start .pre .0 in
     bound-asks (at-start .args .d) (at-row read _ (omega (arith, read .row-least, read .row-most)) (omega (arith, read .row-most))) (at-start .pre .1)
 
 returns-3 : tie.Need-returns-3
 unfolding boundOf
 returns-3 c =
-    let at-start = c .before .before .before .before .before .before in
-    let else2 = c .before .before in
+    let at-start = c .before .before .before .before .before in
+    let else2 = c .before in
     rw (c .bound .ensures) (low-under (at-start .pre .0) (at-start .args .bar) (at-start .args .d)
     (omega (arith, at-start .pre .2, else2 .if2 .left)))
 
