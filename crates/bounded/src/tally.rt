@@ -2,34 +2,34 @@
 ghost use mathlib.Core.Path.{_≡_};
 ghost use Prim.Native.Nat.{_*_, _≤_};
 ghost use lib.Dec.{ltb};
-ghost use lib.ListN.{length};
+ghost use lib.ListN.{length, replicate};
 ghost use Rattle.model.specs.Words.{row as rowOf, table, over};
 ghost use Rattle.laws.specs.Lookups.{once};
 
-// How often position q was visited after p rows, q from 0.
-fn visits(q: usize, p: usize) -> u8
-    ensures { λ r. ⌜ r ≡ once (ltb q p) ⌝ }
-{
-    if q < p {
-        return 1;
-    }
-    0
-}
-
-// One list's part of the tally.
-fn fill_list(row: &mut [u8], p: usize)
-    ensures { λ _. ⌜ now (row .exit) ≡ rowOf (λ q. once (ltb q p)) (length (now (row .entry))) ⌝ }
+// Every entry of a part of the tally is x.
+fn fill(part: &mut [u8], x: u8)
+    ensures { λ _. ⌜ now (part .exit) ≡ replicate (length (now (part .entry))) x ⌝ }
 {
     let mut q = 0;
-    while q < row.len() {
-        row[q] = visits(q, p);
+    while q < part.len() {
+        part[q] = x;
         q += 1;
     }
 }
 
+// One list's part of the tally: two plain fills, with no test of an entry.
+fn fill_list(row: &mut [u8], p: usize)
+    requires { ⌜ p ≤ length (now row) ⌝ }
+    ensures { λ _. ⌜ now (row .exit) ≡ rowOf (λ q. once (ltb q p)) (length (now (row .entry))) ⌝ }
+{
+    let end = row.len();
+    fill(&mut row[0..p], 1);
+    fill(&mut row[p..end], 0);
+}
+
 // The whole tally after p rows; places beyond it stay as lent.
 pub fn fill_tally(p: usize, m: usize, n: usize, tally: &mut [u8])
-    requires { ⌜ (m ≤ 8) × (n ≤ 1024) × (m * n ≤ length (now tally)) ⌝ }
+    requires { ⌜ (p ≤ n) × (m ≤ 8) × (n ≤ 1024) × (m * n ≤ length (now tally)) ⌝ }
     ensures { λ _. ⌜ now (tally .exit) ≡ over (table (λ i q. once (ltb q p)) n m) (now (tally .entry)) ⌝ }
 {
     let mut i = 0;

@@ -57,8 +57,11 @@ rank-requires c κs =
 fill-tally-requires : tie.Need-fill-tally-requires
 fill-tally-requires c κs =
     let at-start = c .before .before .before .before .before .before .before .before .before .before .before .before .before .before .before .before .before .before .before .before .before .before .before .before in
+    let after-stopping-row = c .before .before .before .before .before .before .before .before .before .before .before .before .before .before in
     let sizes = at-start .pre .0 .lists-valid .size in
-    (sizes .m-most, sizes .n-most, at-start .pre .1 .tally-long)
+    let room = at-start .pre .1 in
+    -- k is at most n as well: it is the tally itself that tells whose row it is
+    (omega (arith, after-stopping-row .stopping-row .ensures .0 .row-most, room .k-most), sizes .m-most, sizes .n-most, room .tally-long)
 
 cast-result : tie.Need-cast-result
 cast-result c = search needs

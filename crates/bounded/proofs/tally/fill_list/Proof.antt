@@ -1,88 +1,69 @@
--- `bounded::tally::fill_list` meets its contract. The loop's invariant: the first q entries are written; the measure is how many are
--- left.
+-- `bounded::tally::fill_list` meets its contract: ones are written over the first p entries, zeros over the others, and that is the row
+-- of the definition (`two-fills`).
 -- Assumes nothing.
 use borrow.Author.Needs.{needs}
-use mathlib.Core.Path.{_≡_, refl}
-use Prim.Native.Nat.{_-_, _≤_}
-use native.Mathlib.Numerals.{add-one}
+use mathlib.Core.Path.{_≡_, ap, _∙_}
+use Prim.Native.Nat.{ℕ, _-_}
 use native.Mathlib.Omega.{arith}
-use lib.Dec.{ltb}
-use lib.ListN.{length, length-set}
-use Rattle.model.specs.Words.{row as rowOf, over}
-use Rattle.laws.specs.Lookups.{once}
-use Rattle.laws.specs.Lists.{fill-more}
-use Rattle.bounded.proofs.Filling.{fill-whole}
+use lib.ListN.{length, replicate}
+use borrow.Rule.Slice.PartMut.{midOf, putMid, mid-len, same-len-mid}
+use Rattle.bounded.proofs.Filling.{two-fills}
 use Rattle.bounded.proofs.tally.fill_list.Statement.{statement}
 use Rattle.bounded.proofs.tally.fill_list.Tie as tie
 
-abbrev Inv-loop : tie.InvT-loop
-Inv-loop row₀ p q₀ row q = (q ≤ length row₀) × (length row ≡ length row₀) × (row ≡ over (rowOf (λ q. once (ltb q p)) q) row₀)
+sub-fill : tie.Need-sub-fill
+sub-fill c = search needs
 
-abbrev μ-loop : tie.MeasureT-loop
-μ-loop row₀ p q₀ row q = length row₀ - q
+part-fill-start : tie.Need-part-fill-start
+part-fill-start c = search needs
 
-loop-holds : tie.Need-loop-holds Inv-loop μ-loop
-unfolding over rowOf
-loop-holds c = (omega arith, refl, refl)
+part-fill-end : tie.Need-part-fill-end
+part-fill-end c = search needs
 
-visits-requires : tie.Need-visits-requires Inv-loop μ-loop
-visits-requires c κs = tt
+fill-requires : tie.Need-fill-requires
+fill-requires c κs = search needs
 
-slice-write-row : tie.Need-slice-write-row Inv-loop μ-loop
-slice-write-row c = search needs
+sub-fill-2 : tie.Need-sub-fill-2
+sub-fill-2 c = search needs
 
-add-q : tie.Need-add-q Inv-loop μ-loop
-add-q c =
-    let at-loop = c .before .before in
-    let in-turn = c .before in
-    let at-start = c .before .before .before .before in
-    omega (arith, at-loop .loop .inv .1, in-turn .loop-test .taken, at-start .good)
+part-fill-start-2 : tie.Need-part-fill-start-2
+part-fill-start-2 c = search needs
 
-loop-less : tie.Need-loop-less Inv-loop μ-loop
-loop-less c =
-    let at-loop = c .before .before in
-    let in-turn = c .before in
-    omega (arith, at-loop .loop .inv .1, in-turn .loop-test .taken)
+part-fill-end-2 : tie.Need-part-fill-end-2
+part-fill-end-2 c = search needs
 
-loop-again : tie.Need-loop-again Inv-loop μ-loop
-loop-again c =
-    let at-loop = c .before .before in
-    let at-start = c .before .before .before .before in
-    let in-turn = c .before in
-    let at-loop = at-loop in
-    let a = at-start .args in
-    let inside = in-turn .loop-test .taken in (
-      omega (arith, at-loop .loop .inv .1),
-      simp length-set (at-loop .loop .inv .1),
-      rw (c .visits .ensures, at-loop .loop .inv .2, add-one (at-loop .loop .q))
-          (fill-more (λ q. once (ltb q (a .p))) (at-loop .loop .q) (a .row .now) (omega (arith, at-loop .loop .inv .1))),
-    )
+fill-requires-2 : tie.Need-fill-requires-2
+fill-requires-2 c κs = search needs
 
-same-length : tie.Need-same-length Inv-loop μ-loop
-same-length c =
-    let at-loop = c .before in
-    at-loop .loop .inv .1
+same-length : tie.Need-same-length
+same-length c = search needs
 
-returns : tie.Need-returns Inv-loop μ-loop
+returns : tie.Need-returns
 returns c =
-    let at-loop = c .before in
-    let at-start = c .before .before .before in
-    let at-loop = at-loop in
+    let at-start = c .before .before .before .before .before .before .before .before .before in
     let a = at-start .args in
-    let whole : at-loop .loop .q ≡ length (a .row .now) = omega (arith, at-loop .loop .inv .0, at-loop .loop .inv .1, c .loop-test .left) in
-    rw (at-loop .loop .inv .2, whole) (fill-whole (λ q. once (ltb q (a .p))) (a .row .now))
+    let end = length (a .row .now) in
+    let first = c .before .before .before .before .before .before .fill in
+    let second = c .before .before .fill2 in
+    let first-long : length (midOf 0 (a .p - 0) (a .row .now)) ≡ a .p = mid-len 0 (a .p) (a .row .now) (at-start .pre) ∙ omega arith in
+    let ones : first .last .0 ≡ replicate (a .p) 1 = first .ensures ∙ ap (λ (k : ℕ). replicate k 1) first-long in
+    let between = putMid 0 (a .p - 0) (a .row .now) (first .last .0) in
+    let between-long = same-len-mid 0 (a .p - 0) (a .row .now) (first .last .0) (first .kept .0) in
+    let zeros : second .last .0 ≡ replicate (end - a .p) 0 =
+    second .ensures ∙ ap (λ (k : ℕ). replicate k 0) (mid-len (a .p) end between (omega (arith, between-long))) in
+    rw (ones, zeros) (two-fills (a .p) (a .row .now) (at-start .pre))
 
 pub fill-list-spec : {M : Type 1} → statement M
 fill-list-spec =
     tie.close
     (tie.spec
-    Inv-loop
-    μ-loop
-    loop-holds
-    visits-requires
-    slice-write-row
-    add-q
-    loop-less
-    loop-again
+    sub-fill
+    part-fill-start
+    part-fill-end
+    fill-requires
+    sub-fill-2
+    part-fill-start-2
+    part-fill-end-2
+    fill-requires-2
     same-length
     returns)
