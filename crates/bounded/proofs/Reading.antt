@@ -1,24 +1,26 @@
 -- What the code reads off the slices is what the definitions say of NRA's rows.
 --     legible, sought            what reading after p rows asks; what the search for the row asks
+--     top-least                  the k-th mark is not 0 when NRA stops
 --     low-is, high-is, met-is    an item's low and high, and whether it is met
 --     held-same, halts-same      the first k and the test, of equal lows, highs and met items
 --     kept-is, stops-is          NRA's first k and its test, as the code has them
 --     finishes                   the run of NRA, from the row found and the shortlist and the tally written there
 -- Assumes nothing.
 use mathlib.Core.Path.{_≡_, refl, sym, ap, _∙_}
-use mathlib.Core.Bool.{Bool, true, false, cond, _&&_, _||_, or-true}
+use mathlib.Core.Bool.{Bool, true, false, cond, _&&_, _||_, or-true, true≢false}
 use mathlib.Core.List.{List, [], _∷_, map}
 use Prim.Native.Nat.{ℕ, _+_, _-_, _*_, _≤_, _<_}
 use native.Mathlib.Numerals.{add-one}
 use native.Mathlib.Omega.{arith}
 use lib.Dec.{eqb, leb, ltb}
 use lib.ListN.{length, getD, take}
-use borrow.Author.Tests.{eq-eqb}
+use borrow.Author.Tests.{eq-eqb, leb-true, leb-false, le-leb, ltb-true, ltb-false, lt-ltb}
 use Rattle.model.specs.Words.{lastOf, table, over}
 use Rattle.model.specs.Given.{Poses, Query, item, score, place, overall}
 use Rattle.model.specs.Accesses.{rowsNRA, met}
 use Rattle.model.specs.Searches.{ahead, among, readOr, lowNRA, highNRA, NRA, kept, stops}
-use Rattle.laws.specs.Tests.{some-same, every-same}
+use Rattle.laws.specs.Tests.{by-cases, some-hit, some-same, every-same}
+use Rattle.laws.specs.Passing.{passing-all}
 use Rattle.laws.specs.Lookups.{once}
 use Rattle.laws.specs.Overall.{joined-same}
 use Rattle.laws.specs.Ranking.{ranked-same}
@@ -28,7 +30,10 @@ use Rattle.meeting.specs.Contracts.{queryWith, Readable, Room, readAt, unread}
 use Rattle.bounded.specs.Depth.{tally-deep, read-deep, met-deep}
 use Rattle.halting.specs.Bar.{held, halts}
 use Rattle.bounded.specs.Stops.{kept-held, stops-halts, rows-are}
-use Rattle.halting.specs.Contracts.{View, view, boundOf, metOf, haltsOf, Legible}
+use Rattle.halting.specs.Contracts.{View, view, boundOf, metOf, haltsOf, Legible, markOf, reachOf}
+use Rattle.halting.specs.Marks.{halts-few}
+use Rattle.leading.specs.Contracts.{Leading}
+use Rattle.leading.specs.Floor.{led-few}
 use Rattle.ending.specs.Contracts.{Sought, Halted}
 use Rattle.bounded.specs.Contracts.{heldOf, Listed, Finished}
 
@@ -114,6 +119,30 @@ module _ (m n rule : ℕ) (weights items scores work : List ℕ) (w : Readable (
         k-least = k-least;
         k-most = k-most;
       }
+
+  -- the k-th mark is not 0 when NRA stops: its test holds, or every item is met
+  pub top-least : {k r : ℕ} {marks tops : List ℕ} → 1 ≤ k → k ≤ n → Halted v k r → Leading v r k marks tops
+      → 1 ≤ getD tops (k - 1) 0
+  unfolding reachOf markOf metOf
+  top-least {k} {r} {marks} {tops} some most found leads =
+      by-cases (leb 1 (getD tops (k - 1) 0))
+      (λ y. leb-true 1 (getD tops (k - 1) 0) y)
+      (λ z.
+      let none : getD tops (k - 1) 0 ≡ 0 = omega (arith, leb-false 1 (getD tops (k - 1) 0) z) in
+      let few : reachOf n marks 0 < k = led-few (leads .led) some none in
+      let read = legible r (found .row-least) (found .row-most) in
+      let lists = w .lists-valid .size .m-least in
+      by-cases (ltb r n)
+      (λ y. absurd (true≢false (sym (found .holds (ltb-true r n y)) ∙ halts-few read (leads .marked) k some few)))
+      (λ y.
+      let all : reachOf n marks 0 ≡ n =
+      passing-all (λ d. ltb 0 (getD marks d 0)) n
+      (λ d hd.
+      let met-it : metOf v r d ≡ true =
+      some-hit (λ i. leb (getD work (i * n + d) 0) r) m 0 lists
+      (le-leb (getD work (0 * n + d) 0) r (omega (arith, read .place-most 0 d lists hd, ltb-false r n y))) in
+      rw (leads .marked .marks-are d hd, met-it) (lt-ltb 0 (boundOf v false r d + 1) (omega arith))) in
+      absurd (omega (arith, few, all))))
 
   -- a local score, and what stands for one that is not read
   read-is : (p d i x y : ℕ) → i < m → d < n → x ≡ y

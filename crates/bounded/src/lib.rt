@@ -8,7 +8,7 @@ use meeting::bound;
 use shortlist::keep;
 use tally::fill_tally;
 ghost use mathlib.Core.Path.{_≡_};
-ghost use Prim.Native.Nat.{_-_, _<_};
+ghost use Prim.Native.Nat.{_-_, _≤_, _<_};
 ghost use Rattle.lists.specs.Contracts.{poses};
 ghost use Rattle.meeting.specs.Contracts.{queryWith, Readable, Room};
 ghost use Rattle.halting.specs.Contracts.{view, Legible, Marked};
@@ -22,8 +22,8 @@ fn narrow(x: usize) -> u16
     x as u16
 }
 
-// Item d, where it is met and its mark is no smaller than `top`, into the first k after p rows, and how many there
-// are then. Its mark is its low and one more, so only its high is left to find.
+// Item d, where its mark is no smaller than `top`, into the first k after p rows, and how many there are then. Its
+// mark is its low and one more, so only its high is left to find.
 fn consider(
     d: usize,
     p: usize,
@@ -42,7 +42,7 @@ fn consider(
     highs: &mut [u32],
 ) -> usize
     requires { ⌜ Legible (view m n rule (now weights) (now scores) (now work)) p
-        × Marked (view m n rule (now weights) (now scores) (now work)) p (now marks) × (d < n)
+        × Marked (view m n rule (now weights) (now scores) (now work)) p (now marks) × (d < n) × (1 ≤ top)
         × Keeps k filled (now picks) (now lows) (now highs) ⌝ }
     ensures { λ r. ⌜ Considered (view m n rule (now (weights .entry)) (now (scores .entry))
         (now (work .entry))) k p
@@ -51,9 +51,6 @@ fn consider(
 {
     let own = marks[d];
     if own < top {
-        return filled;
-    }
-    if own == 0 {
         return filled;
     }
     let high = bound(true, d, p, m, n, rule, weights, scores, work);
@@ -79,7 +76,7 @@ fn rank(
 ) -> usize
     requires { ⌜ Legible (view m n rule weights (now scores) (now work)) p
         × Marked (view m n rule weights (now scores) (now work)) p (now marks) × Kth n k (now marks) top
-        × Spaced k (now picks) (now lows) (now highs) ⌝ }
+        × (1 ≤ top) × Spaced k (now picks) (now lows) (now highs) ⌝ }
     ensures { λ r. ⌜ Listed (view m n rule weights (now (scores .entry)) (now (work .entry))) k p n
         (now (picks .entry)) (now (lows .entry)) (now (highs .entry)) r (now (picks .exit)) (now (lows .exit))
         (now (highs .exit)) ⌝ }

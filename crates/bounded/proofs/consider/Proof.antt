@@ -19,14 +19,9 @@ returns c =
     let asked = c .before .before .before .before .before .before .before .before .pre in
     considered-out (asked .0) (asked .1) (asked .2) (omega (arith, c .if1 .taken))
 
-returns-2 : tie.Need-returns-2
-returns-2 c =
-    let asked = c .before .before .before .before .before .before .before .before .before .pre in
-    considered-out (asked .0) (asked .1) (asked .2) (omega (arith, c .if2 .taken))
-
 bound-requires : tie.Need-bound-requires
 bound-requires c κs =
-    let at-start = c .before .before .before .before .before .before .before .before .before in
+    let at-start = c .before .before .before .before .before .before .before .before in
     bound-asks (at-start .args .d) (at-start .pre .0) (at-start .pre .2)
 
 narrow-requires : tie.Need-narrow-requires
@@ -47,18 +42,17 @@ same-length-2 c = search needs
 same-length-3 : tie.Need-same-length-3
 same-length-3 c = search needs
 
-returns-3 : tie.Need-returns-3
+returns-2 : tie.Need-returns-2
 unfolding boundOf
-returns-3 c =
-    let at-start = c .before .before .before .before .before .before .before .before .before .before .before .before .before .before .before .before .before .before .before .before .before in
-    let not-less = c .before .before .before .before .before .before .before .before .before .before .before .before .before in
-    let not-none = c .before .before .before .before .before .before .before .before .before .before .before .before in
+returns-2 c =
+    let at-start = c .before .before .before .before .before .before .before .before .before .before .before .before .before .before .before .before .before .before .before .before in
+    let not-less = c .before .before .before .before .before .before .before .before .before .before .before .before in
     let after-bound = c .before .before .before .before .before .before .before .before .before .before .before in
     let after-narrow = c .before .before .before .before .before .before .before .before .before .before in
     let after-keep = c .before .before .before .before .before .before in
     let asked = at-start .pre in
     let item : after-narrow .narrow .result ≡ at-start .args .d = after-narrow .narrow .ensures in
-    considered-in (asked .0) (asked .1) (asked .2) (omega (arith, not-less .if1 .left, not-none .if2 .left)) (after-bound .bound .ensures)
+    considered-in (asked .0) (asked .1) (asked .2) (omega (arith, not-less .if1 .left, asked .3)) (after-bound .bound .ensures)
     (rw item at (after-keep .keep .ensures))
 
 pub consider-spec : {M : Type 1} → statement M
@@ -68,7 +62,6 @@ consider-spec =
     mul-own
     shared-slice-read-own
     returns
-    returns-2
     bound-requires
     narrow-requires
     sub-keep
@@ -76,4 +69,4 @@ consider-spec =
     same-length
     same-length-2
     same-length-3
-    returns-3)
+    returns-2)

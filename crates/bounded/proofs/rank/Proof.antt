@@ -35,10 +35,11 @@ consider-requires c κs =
     let a = at-start .args in
     let v = view (a .m) (a .n) (a .rule) (a .t7) (a .scores .now) (a .work .now) in
     let inv = at-loop .loop .inv in
-    let room = at-start .pre .3 in (
+    let room = at-start .pre .4 in (
       at-start .pre .0,
       at-start .pre .1,
       in-turn .loop-test .taken,
+      at-start .pre .3,
       record {
         room = record {
           k-least = room .k-least;

@@ -5,7 +5,7 @@ use borrow.Author.Needs.{needs}
 use native.Mathlib.Omega.{arith}
 use Rattle.leading.specs.Floor.{led-start, marked-start}
 use Rattle.ending.specs.Contracts.{kth-of}
-use Rattle.bounded.proofs.Reading.{legible, sought, finishes}
+use Rattle.bounded.proofs.Reading.{legible, sought, top-least, finishes}
 use Rattle.bounded.proofs.run_nra.Statement.{statement}
 use Rattle.bounded.proofs.run_nra.Tie as tie
 
@@ -51,6 +51,8 @@ rank-requires c κs =
           (omega (arith, found .row-least, found .row-most)) (omega (arith, found .row-least, found .row-most)),
       leads .marked,
       kth-of (leads .led) (room .k-least),
+      top-least (a .m) (a .n) (a .rule) (a .weights) (a .items .now) (a .scores .now) (a .work .now) (at-start .pre .0)
+          (room .k-least) (room .k-most) found leads,
       record { k-least = room .k-least; picks-long = room .picks-long; lows-long = room .lows-long; highs-long = room .highs-long },
     )
 
