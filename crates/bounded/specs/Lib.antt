@@ -1,5 +1,5 @@
 -- NRA: what its run promises, and the laws that it rests on.
---     Depth          after p rows the first p positions of each list are visited; lows rise, highs fall
+--     Depth          after p rows the first p positions of each list are visited
 --     Stops          the row after which NRA stops
 --     Contracts      the records that the functions' contracts cite
 pub mod Depth

@@ -110,7 +110,7 @@ limit-asks {v} {p} w =
 unfoldable pub markOf : View → ℕ → ℕ → ℕ
 markOf v p d = cond (metOf v p d) (boundOf v false p d + 1) 0
 
--- Each item's mark after p rows, none too large
+-- Each item's mark after p rows
 pub record Marked (v : View) (p : ℕ) (marks : List ℕ) : Type 0 where
   pub marks-long : v .n ≤ length marks
   pub marks-are : (d : ℕ) → d < v .n → getD marks d 0 ≡ markOf v p d
