@@ -1,8 +1,8 @@
 // The tests of a search before it runs: its own 1 to 6, in that order, then the list check.
 ghost use mathlib.Core.Path.{_≡_};
-ghost use Prim.Native.Nat.{ℕ, _+_, _*_, _≤_, _<_};
-ghost use lib.ListN.{length, getD};
-ghost use Rattle.model.specs.Refusals.{pair as pairOf, wrongK, wrongRule, wrongWeights, weightOf};
+ghost use Prim.Native.Nat.{_+_, _*_, _≤_, _<_};
+ghost use lib.ListN.{length};
+ghost use Rattle.model.specs.Refusals.{pair as pairOf, wrongK, wrongWeights};
 ghost use Rattle.model.specs.Answers.{told};
 ghost use Rattle.admission.specs.Contracts.{noRoomOf, shapeOf, Decoded, Admitted};
 use lists::Checked;

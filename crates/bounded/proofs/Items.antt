@@ -10,14 +10,12 @@ use mathlib.Core.Path.{_≡_, refl, sym, ap, _∙_}
 use mathlib.Core.Bool.{true, false, _&&_, and-true}
 use mathlib.Core.List.{List, []}
 use Prim.Native.Nat.{ℕ, suc, _+_, _-_, _≤_, _<_}
-use native.Mathlib.Nat.{not-suc-le-zero}
 use native.Mathlib.Numerals.{add-one}
 use native.Mathlib.Omega.{arith}
 use lib.Dec.{eqb, leb, ltb}
 use lib.ListN.{getD, take, length-take}
 use lib.Seq.{take-nil}
 use borrow.Author.Tests.{eqb-true, eqb-false, leb-true, leb-false, le-leb, le-ltb, lt-ltb}
-use Rattle.model.specs.Words.{over}
 use Rattle.model.specs.Searches.{ahead, insert, ranked, among}
 use Rattle.laws.specs.Tests.{by-cases}
 use Rattle.laws.specs.Ahead.{never, ahead-ordering, ahead-is, by-low}
@@ -27,7 +25,9 @@ use Rattle.halting.specs.Bar.{held}
 use Rattle.halting.specs.Contracts.{View, boundOf, metOf, Legible, markOf, Marked}
 use Rattle.halting.specs.Marks.{mark-above, reach-is}
 use Rattle.ending.specs.Contracts.{Kth}
-use Rattle.bounded.specs.Contracts.{heldOf, reachesOf, frontOf, Inserted, Listed, Passed, Considered}
+use Rattle.meeting.specs.Shortlist.{Inserted}
+use Rattle.meeting.specs.Keeping.{listing-none}
+use Rattle.bounded.specs.Contracts.{heldOf, reachesOf, frontOf, Listed, Passed, Considered}
 
 module _ (v : View) (k p bar : ℕ) where
   front-none : frontOf v k p bar 0 ≡ []
@@ -53,17 +53,8 @@ module _ (v : View) (k p bar : ℕ) where
       (λ y. let small = kept-item (ahead (boundOf v false p) (boundOf v true p)) (reachesOf v p bar) d k d y .0 in omega arith)
 
   pub passed-none : (picks lows highs : List ℕ) → Passed v k p bar 0 picks lows highs 0 picks lows highs
-  unfolding over
   passed-none picks lows highs =
-      record {
-        listing =
-            rw front-none
-            (record {
-              in-order = λ a b lt h. absurd (not-suc-le-zero h);
-              filled-is = refl;
-              shown = record { picks-are = refl; lows-are = refl; highs-are = refl };
-            });
-      }
+      record { listing = rw front-none (listing-none (boundOf v false p) (boundOf v true p) picks lows highs) }
 
   module _ {picks₀ lows₀ highs₀ picks lows highs : List ℕ} {d filled : ℕ}
       (at : Passed v k p bar d picks₀ lows₀ highs₀ filled picks lows highs) where

@@ -1,19 +1,19 @@
 // NRA: the search by bounds. Once the row after which it stops is known, its shortlist and its tally are
 // written once.
 mod shortlist;
-mod tally;
 
 use ending::stopping_row;
 use meeting::bound;
 use shortlist::keep;
-use tally::fill_tally;
+use tallying::fill_tally;
 ghost use mathlib.Core.Path.{_≡_};
 ghost use Prim.Native.Nat.{_-_, _≤_, _<_};
 ghost use Rattle.lists.specs.Contracts.{poses};
 ghost use Rattle.meeting.specs.Contracts.{queryWith, Readable, Room};
+ghost use Rattle.meeting.specs.Shortlist.{Spaced, Keeps};
 ghost use Rattle.halting.specs.Contracts.{view, Legible, Marked};
 ghost use Rattle.ending.specs.Contracts.{Kth};
-ghost use Rattle.bounded.specs.Contracts.{Spaced, Keeps, Listed, Considered, Finished};
+ghost use Rattle.bounded.specs.Contracts.{Listed, Considered, Finished};
 
 fn narrow(x: usize) -> u16
     requires { ⌜ x < 65536 ⌝ }

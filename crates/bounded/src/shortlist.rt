@@ -1,7 +1,7 @@
 // The shortlist in its three slices: items, lows and highs.
 use meeting::seats;
 use meeting::sliding;
-ghost use Rattle.bounded.specs.Contracts.{Keeps, Inserted};
+ghost use Rattle.meeting.specs.Shortlist.{Keeps, Inserted};
 
 // Item d into the first k, and how many there are then. Seat k means that it is not kept.
 pub fn keep(
@@ -23,8 +23,7 @@ pub fn keep(
         return filled;
     }
     let last = sliding::last_place(filled, k);
-    sliding::slide_items(picks, at, last, d);
-    sliding::slide_scores(lows, at, last, low);
+    sliding::slide_places(picks, lows, at, last, d, low);
     sliding::slide_scores(highs, at, last, high);
     last + 1
 }

@@ -14,14 +14,11 @@ use mathlib.Core.List.{List, [], _++_}
 use Prim.Native.Nat.{ℕ, zero, suc, _+_, _*_, _≤_}
 use lib.Dec.{eqb}
 use lib.ListN.{length}
-use Rattle.model.specs.Words.{over}
 use Rattle.model.specs.Refusals.{Verdict, accepted, refused, Lent, searchVerdict}
 use Rattle.model.specs.Answers.{Place, told}
-use Rattle.model.specs.Program.{nameTA, nameBPA, nameBPA2, nameNRA, line, refusedLine, searchLine, printing, printed}
+use Rattle.model.specs.Program.{nameTA, nameBPA, nameBPA2, nameNRA, line, refusedLine, searchLine, printing}
 use Rattle.running.specs.Contracts.{searchAt}
 use Rattle.answering.specs.declared.Answer.{Answer}
-use Rattle.records.specs.declared.QueryRead.{QueryRead}
-use Rattle.records.specs.Contracts.{QueryIsRead}
 use Rattle.text.specs.Contracts.{Appended}
 use Rattle.lines.specs.declared.Line.{Line}
 

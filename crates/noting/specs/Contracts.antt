@@ -1,40 +1,16 @@
 -- The records that the contracts of `noting` cite.
---     Keeps, Listing, Inserted       what an insertion asks; items in their order in both slices; what it promises
 --     Visitable, visitedOnce         what the visit of an item in every list asks; the tally afterwards
 --     Walkable, walkedTo             what a walk to a list's best position asks; where it ends
 --     Advancing, Advanced            the same for every list
 -- Assumes nothing.
 use mathlib.Core.Path.{_≡_}
-use mathlib.Core.Bool.{false, _&&_}
-use mathlib.Core.List.{List, map}
+use mathlib.Core.Bool.{_&&_}
+use mathlib.Core.List.{List}
 use Prim.Native.Nat.{ℕ, _+_, _-_, _*_, _≤_, _<_}
 use lib.Dec.{ltb, eqb}
-use lib.ListN.{length, getD, take}
+use lib.ListN.{length, getD}
 use Rattle.model.specs.Words.{first, table, over}
-use Rattle.model.specs.Searches.{ahead, insert, among}
-use Rattle.laws.specs.Ranking.{Sorted}
 use Rattle.laws.specs.Lookups.{once}
-
--- k places are lent in both slices, of which the first are filled
-pub record Keeps (k filled : ℕ) (picks lows : List ℕ) : Type 0 where
-  pub k-least : 1 ≤ k
-  pub filled-most : filled ≤ k
-  pub picks-long : k ≤ length picks
-  pub lows-long : k ≤ length lows
-
--- Items l in the order of their scores f stand in both slices over what was lent
-pub record Listing (f : ℕ → ℕ) (l picks₀ lows₀ : List ℕ) (filled : ℕ) (picks lows : List ℕ) : Type 0 where
-  pub in-order : Sorted (ahead f f) l
-  pub filled-is : filled ≡ length l
-  pub picks-are : picks ≡ over l picks₀
-  pub lows-are : lows ≡ over (map f l) lows₀
-  pub picks-as-long : length picks ≡ length picks₀
-  pub lows-as-long : length lows ≡ length lows₀
-
--- Whatever items stand in the slices in the order of their scores, the first k of them stand there once d is among them
-pub record Inserted (d x k filled : ℕ) (picks lows : List ℕ) (r : ℕ) (picks′ lows′ : List ℕ) : Type 0 where
-  pub inserts : (f : ℕ → ℕ) (l picks₀ lows₀ : List ℕ) → Listing f l picks₀ lows₀ filled picks lows → x ≡ f d
-      → among d l ≡ false → Listing f (take k (insert (ahead f f) d l)) picks₀ lows₀ r picks′ lows′
 
 -- Item d has a position in each of m lists that lie within the tally and the work slice, and no count there is too large
 pub record Visitable (d m n : ℕ) (tally work : List ℕ) : Type 0 where

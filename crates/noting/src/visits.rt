@@ -1,9 +1,6 @@
 // Visits of positions, kept in the tally, and the best position of a list read off it.
 use lists::wide;
 ghost use mathlib.Core.Path.{_≡_};
-ghost use Prim.Native.Nat.{_+_, _*_, _≤_, _<_};
-ghost use mathlib.Core.List.{_++_};
-ghost use lib.ListN.{length, drop, replicate};
 ghost use Rattle.noting.specs.Contracts.{Visitable, visitedOnce, Walkable, walkedTo, Advancing, Advanced};
 
 // One visit of item d's position in every list. The work slice has the positions, from one.
@@ -39,18 +36,6 @@ pub fn walk_on(i: usize, m: usize, n: usize, from: usize, tally: &[u8]) -> usize
         b += 1;
     }
     b
-}
-
-// No position is visited yet: the first `size` entries are 0.
-pub fn clear(tally: &mut [u8], size: usize)
-    requires { ⌜ size ≤ length (now tally) ⌝ }
-    ensures { λ _. ⌜ now (tally .exit) ≡ replicate size 0 ++ drop size (now (tally .entry)) ⌝ }
-{
-    let mut i = 0;
-    while i < size {
-        tally[i] = 0;
-        i += 1;
-    }
 }
 
 // The best position of each list, walked to from a position up to which all are visited.

@@ -3,20 +3,13 @@
 --     Previewed              what `preview` promises
 -- Assumes nothing.
 use mathlib.Core.Path.{_≡_}
-use mathlib.Core.Bool.{cond}
-use mathlib.Core.List.{List, [], _++_}
-use Prim.Native.Nat.{ℕ, zero, suc, _+_, _*_, _≤_}
-use lib.Dec.{eqb}
+use mathlib.Core.List.{List}
+use Prim.Native.Nat.{ℕ, _*_, _≤_}
 use lib.ListN.{length}
 use Rattle.model.specs.Words.{over}
-use Rattle.model.specs.Refusals.{Verdict, accepted, refused, Lent, searchVerdict}
-use Rattle.model.specs.Answers.{Place, told}
-use Rattle.model.specs.Program.{nameTA, nameBPA, nameBPA2, nameNRA, line, refusedLine, searchLine, printing, printed}
-use Rattle.running.specs.Contracts.{searchAt}
-use Rattle.answering.specs.declared.Answer.{Answer}
+use Rattle.model.specs.Program.{printed}
 use Rattle.records.specs.declared.QueryRead.{QueryRead}
 use Rattle.records.specs.Contracts.{QueryIsRead}
-use Rattle.text.specs.Contracts.{Appended}
 use Rattle.lines.specs.Contracts.{lineRoom}
 
 -- Room for the greatest set and the longest text: two slices for lists, five that a search writes, and one for the text

@@ -4,7 +4,7 @@ use meeting::Done;
 use meeting::Random;
 use meeting::Sorted;
 ghost use mathlib.Core.Path.{_≡_};
-ghost use Prim.Native.Nat.{ℕ, _≤_};
+ghost use Prim.Native.Nat.{_≤_};
 ghost use lib.ListN.{length, take};
 ghost use Rattle.model.specs.Words.{over};
 ghost use Rattle.lists.specs.Contracts.{poses};

@@ -28,7 +28,8 @@ use Rattle.laws.specs.Lookups.{made-none}
 use Rattle.lists.specs.Contracts.{poses}
 use Rattle.meeting.specs.Contracts.{queryWith, Readable, Limited, limitAt}
 use Rattle.meeting.specs.declared.Done.{Done}
-use Rattle.noting.specs.Contracts.{Keeps, Advancing}
+use Rattle.meeting.specs.Shortlist.{Keeps}
+use Rattle.noting.specs.Contracts.{Advancing}
 use Rattle.stepping.specs.declared.rows.Turn.{Turn}
 use Rattle.stepping.specs.State.{ranking, State, Standing, Reached}
 use Rattle.scored.specs.Run.{stepsBy, reachBy, kindBy, searchBy, Stepped, Placed, Counted, Ran}
@@ -47,10 +48,14 @@ state-self {s} {q} {k} {filled} {tr} {picks₀} {lows₀} {tally₀} at =
       shortlist = record {
         in-order = at .shortlist .in-order;
         filled-is = at .shortlist .filled-is;
-        picks-are = again l picks₀ _ (at .shortlist .picks-are);
-        lows-are = again (map (total s q) l) lows₀ _ (at .shortlist .lows-are);
+        shown = record {
+          picks-are = again l picks₀ _ (at .shortlist .shown .picks-are);
+          lows-are = again (map (total s q) l) lows₀ _ (at .shortlist .shown .lows-are);
+          highs-are = again (map (total s q) l) lows₀ _ (at .shortlist .shown .lows-are);
+        };
         picks-as-long = refl;
         lows-as-long = refl;
+        highs-as-long = refl;
       };
       tally-is = again (tally s tr) tally₀ _ (at .tally-is);
       tally-as-long = refl;
@@ -90,7 +95,7 @@ pub record After (which : ℕ) (s : Poses) (q : Query) (k : ℕ) (picks₀ lows�
   pub few : found ≤ p * s .m
   pub not-yet : (x : ℕ) → 1 ≤ x → x < p → stops s k (searchBy which s q) x ≡ false
 
-module _ (m n rule : ℕ) (weights items scores work : List ℕ) (r : Readable (poses m n items scores) (queryWith rule weights) work) (which k : ℕ) (picks₀ lows₀ tally₀ : List ℕ) (keeps : Keeps k 0 picks₀ lows₀) (long : m * n ≤ length tally₀) where
+module _ (m n rule : ℕ) (weights items scores work : List ℕ) (r : Readable (poses m n items scores) (queryWith rule weights) work) (which k : ℕ) (picks₀ lows₀ tally₀ : List ℕ) (keeps : Keeps k 0 picks₀ lows₀ lows₀) (long : m * n ≤ length tally₀) where
   abbrev s : Poses
   s = poses m n items scores
 
@@ -150,11 +155,11 @@ module _ (m n rule : ℕ) (weights items scores work : List ℕ) (r : Readable (
         }
 
     pub lows-after : k ≤ length lows
-    lows-after = omega (arith, keeps .lows-long, a .state .shortlist .lows-as-long)
+    lows-after = omega (arith, keeps .room .lows-long, a .state .shortlist .lows-as-long)
 
     -- the test that the code makes is the search's own
     test-is : (leb k filled && leb (limitAt rule weights m n reach scores) (getD lows (k - 1) 0)) ≡ stops s k (searchBy which s q) p
-    test-is = stops-told which p (a .state) (limitAt rule weights m n reach scores) (keeps .k-least)
+    test-is = stops-told which p (a .state) (limitAt rule weights m n reach scores) (keeps .room .k-least)
         (limit-is m n rule weights items scores which p reach (a .place))
 
     pub after-goes-on : (eqb p n || (leb k filled && leb (limitAt rule weights m n reach scores) (getD lows (k - 1) 0))) ≡ false
@@ -192,8 +197,8 @@ module _ (m n rule : ℕ) (weights items scores work : List ℕ) (r : Readable (
           sorted-are = rw row (counts .sorted-are ∙ three .0);
           direct-are = rw row (counts .direct-are ∙ three .1);
           random-are = rw row (counts .random-are ∙ three .2);
-          picks-are = rw (row, is-kept) (a .state .shortlist .picks-are);
-          lows-are = rw (row, is-kept) (a .state .shortlist .lows-are);
+          picks-are = rw (row, is-kept) (a .state .shortlist .shown .picks-are);
+          lows-are = rw (row, is-kept) (a .state .shortlist .shown .lows-are);
           tally-is = rw row (a .state .tally-is ∙ ap (over (table (times (stepsBy which s p)) n m)) cleared
               ∙ over-over (table (times (stepsBy which s p)) n m) (replicate (m * n) 0) marks₀ zeros);
         }

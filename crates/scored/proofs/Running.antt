@@ -35,6 +35,7 @@ use Rattle.laws.specs.Kept.{last-at}
 use Rattle.laws.specs.Overall.{joined-same}
 use Rattle.lists.specs.Contracts.{poses}
 use Rattle.meeting.specs.Contracts.{queryWith, limitAt}
+use Rattle.meeting.specs.Keeping.{listing-none}
 use Rattle.stepping.specs.State.{ranking, State, Reached}
 use Rattle.scored.specs.Run.{stepsBy, reachBy, kindBy, searchBy}
 
@@ -160,7 +161,7 @@ module _ {s : Poses} {q : Query} (which p : ℕ) {k filled : ℕ} {picks₀ lows
       let inside : k - 1 < length t = omega (arith, at .shortlist .filled-is) in
       let k-is : suc (k - 1) ≡ k = omega arith in
       let last : lastOf 0 t ≡ getD l (k - 1) 0 = rw k-is at (last-at 0 l (k - 1) (omega arith)) in
-      rw (at .shortlist .lows-are, last)
+      rw (at .shortlist .shown .lows-are, last)
       (over-at (map (total s q) t) lows₀ (k - 1) 0 (rw length-map inside) ∙ map-at (total s q) t (k - 1) inside
       ∙ ap (total s q) (getD-take k l (k - 1) 0 (omega arith)))
 
@@ -220,14 +221,7 @@ pub state-start : (s : Poses) (q : Query) (k : ℕ) (picks lows marks marks₀ :
 unfolding over
 state-start s q k picks lows marks marks₀ e long =
     record {
-      shortlist = rw (none-kept s q k) (record {
-        in-order = λ a b lt h. absurd (omega arith);
-        filled-is = refl;
-        picks-are = refl;
-        lows-are = refl;
-        picks-as-long = refl;
-        lows-as-long = refl;
-      });
+      shortlist = rw (none-kept s q k) (listing-none (total s q) (total s q) picks lows lows);
       tally-is = e ∙ rw (none-tallied s, length-replicate {A = ℕ} (s .m * s .n) 0);
       tally-as-long = long;
     }

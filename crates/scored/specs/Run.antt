@@ -18,7 +18,8 @@ use Rattle.model.specs.Accesses.{Kind, sorted, direct, random, Access, rowsTA, 
 use Rattle.model.specs.Searches.{Search, kept, rows, threshold, byScore, TA, BPA, BPA2}
 use Rattle.meeting.specs.Contracts.{Readable}
 use Rattle.meeting.specs.declared.Done.{Done}
-use Rattle.noting.specs.Contracts.{Keeps, walkedTo}
+use Rattle.meeting.specs.Shortlist.{Keeps}
+use Rattle.noting.specs.Contracts.{walkedTo}
 use Rattle.stepping.specs.declared.rows.Turn.{Turn}
 use Rattle.stepping.specs.State.{Goes, Standing, Reached}
 
@@ -85,7 +86,7 @@ pub record Counted (which p m found : ℕ) (d : Done) : Type 0 where
 -- Once the tests are passed, with room for k places and the tally
 pub record Running (s : Poses) (q : Query) (k : ℕ) (picks lows marks work : List ℕ) : Type 0 where
   pub readable : Readable s q work
-  pub keeps : Keeps k 0 picks lows
+  pub keeps : Keeps k 0 picks lows lows
   pub tally-long : s .m * s .n ≤ length marks
 
 -- The row at which the search stops, its accesses by kind, and over what was lent the first k items, their scores and the tally

@@ -9,8 +9,7 @@ use meeting::Sorted;
 use noting::visits;
 use stepping::rows;
 use stepping::rows::Turn;
-ghost use mathlib.Core.Path.{_≡_};
-ghost use Prim.Native.Nat.{_+_, _*_, _≤_, _<_};
+use tallying::clear;
 ghost use Rattle.lists.specs.Contracts.{poses};
 ghost use Rattle.meeting.specs.Contracts.{queryWith};
 ghost use Rattle.noting.specs.Contracts.{Advancing};
@@ -142,7 +141,7 @@ pub fn run(
         k (now (picks .entry)) (now (lows .entry)) (now (tally .entry)) r (now (picks .exit))
         (now (lows .exit)) (now (tally .exit)) ⌝ }
 {
-    visits::clear(tally, m * n);
+    clear(tally, m * n);
     let mut best = [0usize; 8];
     let mut filled = 0;
     let mut found: u32 = 0;

@@ -27,7 +27,8 @@ use Rattle.laws.specs.Ranking.{among-at, ranked-same, ranked-more, ranked-among
 use Rattle.laws.specs.Kept.{take-among}
 use Rattle.laws.specs.Overall.{joined-same}
 use Rattle.meeting.specs.Contracts.{readAt, unread}
-use Rattle.noting.specs.Contracts.{visitedIn, visitedOnce, Listing}
+use Rattle.meeting.specs.Shortlist.{Listing}
+use Rattle.noting.specs.Contracts.{visitedIn, visitedOnce}
 use Rattle.stepping.specs.State.{ranking, State}
 use Rattle.stepping.specs.Steps.{mark-at}
 
@@ -127,7 +128,8 @@ module _ (s : Poses) (q : Query) (work : List ℕ) (v : Valid s) (w : Placed s w
             }
 
         pub meets-new : {filled′ : ℕ} {picks′ lows′ : List ℕ} → met s tr d ≡ false
-            → Listing (total s q) (take k (insert (ahead (total s q) (total s q)) d (take k (ranking s q tr)))) picks₀ lows₀ filled′ picks′ lows′
+            → Listing (total s q) (total s q) (take k (insert (ahead (total s q) (total s q)) d (take k (ranking s q tr)))) picks₀ lows₀ lows₀ filled′
+            picks′ lows′ lows′
             → State s q k (tr ++ lookup s a i p) picks₀ lows₀ tally₀ filled′ picks′ lows′ marks′
         meets-new new inserted =
             record {

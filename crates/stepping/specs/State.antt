@@ -20,7 +20,8 @@ use Rattle.laws.specs.Accepted.{Valid, Placed}
 use Rattle.laws.specs.Meetings.{Whole}
 use Rattle.lists.specs.Contracts.{poses}
 use Rattle.meeting.specs.Contracts.{queryWith, Readable, Located, Small}
-use Rattle.noting.specs.Contracts.{Keeps, Listing, Visitable}
+use Rattle.meeting.specs.Shortlist.{Keeps, Listing}
+use Rattle.noting.specs.Contracts.{Visitable}
 use Rattle.stepping.specs.declared.rows.Turn.{Turn}
 
 -- the items met, by score falling, then item rising
@@ -30,7 +31,7 @@ ranking s q tr = ranked (ahead (total s q) (total s q)) (met s tr) (s .n)
 -- After the accesses tr, over what was lent: the first k items met with their scores, and the tally
 pub record State (s : Poses) (q : Query) (k : ℕ) (tr : List Access) (picks₀ lows₀ tally₀ : List ℕ) (filled : ℕ) (picks lows marks : List ℕ) : Type 0
   where
-    pub shortlist : Listing (total s q) (take k (ranking s q tr)) picks₀ lows₀ filled picks lows
+    pub shortlist : Listing (total s q) (total s q) (take k (ranking s q tr)) picks₀ lows₀ lows₀ filled picks lows lows
     pub tally-is : marks ≡ over (tally s tr) tally₀
     pub tally-as-long : length marks ≡ length tally₀
 
@@ -46,7 +47,7 @@ pub record Meeting (d m n k filled : ℕ) (weights scores picks lows marks work 
   pub located : Located m n d n scores work
   pub small : Small weights scores
   pub visitable : Visitable d m n marks work
-  pub keeps : Keeps k filled picks lows
+  pub keeps : Keeps k filled picks lows lows
 
 -- Item d, wherever it was found: one lookup more
 pub record Met (d m n rule k filled : ℕ) (weights scores picks lows marks work : List ℕ) (filled′ : ℕ) (picks′ lows′ marks′ : List ℕ) : Type 0 where
@@ -59,7 +60,7 @@ pub record Met (d m n rule k filled : ℕ) (weights scores picks lows marks work
 -- Between two steps: all that may be read, the state after tr over the slices themselves, and room for more
 pub record Standing (s : Poses) (q : Query) (k : ℕ) (tr : List Access) (filled : ℕ) (picks lows marks work : List ℕ) : Type 0 where
   pub readable : Readable s q work
-  pub keeps : Keeps k filled picks lows
+  pub keeps : Keeps k filled picks lows lows
   pub tally-long : s .m * s .n ≤ length marks
   pub state : State s q k tr picks lows marks filled picks lows marks
 

@@ -19,7 +19,8 @@ use Rattle.laws.specs.Lookups.{times-append}
 use Rattle.laws.specs.Rows.{rows-most, row-within}
 use Rattle.lists.specs.Contracts.{poses}
 use Rattle.meeting.specs.Contracts.{queryWith, Readable, Located, Small}
-use Rattle.noting.specs.Contracts.{Keeps, Visitable}
+use Rattle.meeting.specs.Shortlist.{Keeps}
+use Rattle.noting.specs.Contracts.{Visitable}
 use Rattle.stepping.specs.State.{ranking, State, Goes, Meeting, Standing}
 
 module _ {s : Poses} {q : Query} {k : ℕ} where
@@ -74,15 +75,18 @@ module _ (m n rule : ℕ) (weights items scores work : List ℕ) (r : Readable (
   small-of = record { weights-small = r .weights-small; scores-small = r .scores-small }
 
   pub keeps-now : {q : Query} {k filled₀ filled : ℕ} {tr : List Access} {picks₀ lows₀ tally₀ picks lows marks : List ℕ}
-      → Keeps k filled₀ picks₀ lows₀ → State (poses m n items scores) q k tr picks₀ lows₀ tally₀ filled picks lows marks
-      → Keeps k filled picks lows
+      → Keeps k filled₀ picks₀ lows₀ lows₀ → State (poses m n items scores) q k tr picks₀ lows₀ tally₀ filled picks lows marks
+      → Keeps k filled picks lows lows
   keeps-now {q} {k} {tr = tr} keeps at =
       let l = at .shortlist in
       record {
-        k-least = keeps .k-least;
+        room = record {
+          k-least = keeps .room .k-least;
+          picks-long = omega (arith, keeps .room .picks-long, l .picks-as-long);
+          lows-long = omega (arith, keeps .room .lows-long, l .lows-as-long);
+          highs-long = omega (arith, keeps .room .highs-long, l .highs-as-long);
+        };
         filled-most = omega (arith, l .filled-is, length-take k (ranking (poses m n items scores) q tr));
-        picks-long = omega (arith, keeps .picks-long, l .picks-as-long);
-        lows-long = omega (arith, keeps .lows-long, l .lows-as-long);
       }
 
   pub visitable-of : {q : Query} {k filled : ℕ} {tr : List Access} {picks₀ lows₀ tally₀ picks lows marks : List ℕ}
@@ -106,7 +110,7 @@ module _ (m n rule : ℕ) (weights items scores work : List ℕ) (r : Readable (
       }
 
   pub meeting-of : {k filled₀ filled : ℕ} {tr : List Access} {picks₀ lows₀ tally₀ picks lows marks : List ℕ}
-      → Keeps k filled₀ picks₀ lows₀ → m * n ≤ length tally₀
+      → Keeps k filled₀ picks₀ lows₀ lows₀ → m * n ≤ length tally₀
       → State (poses m n items scores) (queryWith rule weights) k tr picks₀ lows₀ tally₀ filled picks lows marks
       → (d : ℕ) → d < n → ((i : ℕ) → i < m → times tr i (place (poses m n items scores) i d) ≤ 8)
       → Meeting d m n k filled weights scores picks lows marks work

@@ -1,6 +1,6 @@
 // One step of a search: an item is met, a row is read, a round is run.
 ghost use mathlib.Core.Path.{_≡_};
-ghost use Prim.Native.Nat.{_+_, _*_, _≤_, _<_};
+ghost use Prim.Native.Nat.{_+_, _*_, _<_};
 ghost use lib.Dec.{ltb};
 ghost use Rattle.model.specs.Accesses.{rowsTA};
 ghost use Rattle.laws.specs.Lookups.{once};

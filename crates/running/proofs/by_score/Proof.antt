@@ -12,7 +12,10 @@ run-requires c κs =
     let room = at-start .pre .1 .1 in
     record {
       readable = at-start .pre .1 .0;
-      keeps = record { k-least = room .k-least; filled-most = omega arith; picks-long = room .picks-long; lows-long = room .lows-long };
+      keeps = record {
+        room = record { k-least = room .k-least; picks-long = room .picks-long; lows-long = room .lows-long; highs-long = room .lows-long };
+        filled-most = omega arith;
+      };
       tally-long = room .tally-long;
     }
 

@@ -142,7 +142,7 @@ ends-requires c κs =
           (at-start .args .scores .now) (at-start .args .work .now) (at-start .pre .readable) (at-start .args .which) (at-start .args .k)
           (at-start .args .picks .now) (at-start .args .lows .now) (after-clear .clear .last .0) (at-start .pre .keeps) (tally-room after-clear)
           known,
-      at-start .pre .keeps .k-least,
+      at-start .pre .keeps .room .k-least,
       lows-after (at-start .args .m) (at-start .args .n) (at-start .args .rule) (at-start .args .weights) (at-start .args .items .now)
           (at-start .args .scores .now) (at-start .args .work .now) (at-start .pre .readable) (at-start .args .which) (at-start .args .k)
           (at-start .args .picks .now) (at-start .args .lows .now) (after-clear .clear .last .0) (at-start .pre .keeps) (tally-room after-clear)

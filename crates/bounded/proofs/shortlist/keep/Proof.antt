@@ -1,7 +1,7 @@
 -- `bounded::shortlist::keep` meets its contract: seat k leaves everything as it is, any other seat is where the item is slid in.
 -- Assumes nothing.
 use borrow.Author.Needs.{needs}
-use Rattle.bounded.proofs.Keeping.{listing-out, listing-in}
+use Rattle.meeting.specs.Keeping.{stays-out, slid-in}
 use Rattle.bounded.proofs.shortlist.keep.Statement.{statement}
 use Rattle.bounded.proofs.shortlist.keep.Tie as tie
 
@@ -19,23 +19,18 @@ same-length-3 c = search needs
 
 returns : tie.Need-returns
 returns c =
-    let at-start = c .before .before .before .before .before .before .before .before in
-    let after-seat = c .before in
-    let room = at-start .pre in
-    let found = after-seat .seat .ensures in
-    record { inserts = λ f g l picks₀ lows₀ highs₀ low-is high-is new at. listing-out at low-is high-is new room found (c .if1 .taken) }
+    let at-start = (c .before .before .before .before .before .before .before .before) in
+    let after-seat = (c .before) in
+    stays-out (at-start .pre) (after-seat .seat .ensures) (c .if1 .taken)
 
 last-place-requires : tie.Need-last-place-requires
 last-place-requires c κs = search needs
 
-slide-items-requires : tie.Need-slide-items-requires
-slide-items-requires c κs = search needs
+slide-places-requires : tie.Need-slide-places-requires
+slide-places-requires c κs = search needs
 
 slide-scores-requires : tie.Need-slide-scores-requires
 slide-scores-requires c κs = search needs
-
-slide-scores-requires-2 : tie.Need-slide-scores-requires-2
-slide-scores-requires-2 c κs = search needs
 
 add-result : tie.Need-add-result
 add-result c = search needs
@@ -51,23 +46,13 @@ same-length-6 c = search needs
 
 returns-2 : tie.Need-returns-2
 returns-2 c =
-    let at-start = c .before .before .before .before .before .before .before .before .before .before .before .before .before .before .before .before .before .before .before .before .before in
-    let after-seat = c .before .before .before .before .before .before .before .before .before .before .before .before .before .before in
-    let after-last-place = c .before .before .before .before .before .before .before .before .before .before .before .before in
-    let after-slide-items = c .before .before .before .before .before .before .before .before .before .before in
-    let after-slide-scores = c .before .before .before .before .before .before in
-    let after-slide-scores2 = c .before .before in
-    let else1 = c .before .before .before .before .before .before .before .before .before .before .before .before .before in
-    let room = at-start .pre in
-    let found = after-seat .seat .ensures in
-    let last-is = after-last-place .last-place .ensures in
-    let items = after-slide-items .slide-items .ensures in
-    let low-slid = after-slide-scores .slide-scores .ensures in
-    let high-slid = after-slide-scores2 .slide-scores2 .ensures in
-    record {
-      inserts = λ f g l picks₀ lows₀ highs₀ low-is high-is new at.
-          listing-in at low-is high-is new room found (else1 .if1 .left) last-is items low-slid high-slid;
-    }
+    let at-start = (c .before .before .before .before .before .before .before .before .before .before .before .before .before .before .before .before .before .before .before .before) in
+    let after-seat = (c .before .before .before .before .before .before .before .before .before .before .before .before .before) in
+    let else1 = (c .before .before .before .before .before .before .before .before .before .before .before .before) in
+    let last-is = (c .before .before .before .before .before .before .before .before .before .before .before) .last-place .ensures in
+    let slid = (c .before .before .before .before .before .before .before .before) .slide-places .ensures in
+    let high-slid = (c .before .before) .slide-scores .ensures in
+    slid-in (at-start .pre) (after-seat .seat .ensures) (else1 .if1 .left) last-is (slid .0) (slid .1) high-slid
 
 pub keep-spec : {M : Type 1} → statement M
 keep-spec =
@@ -79,9 +64,8 @@ keep-spec =
     same-length-3
     returns
     last-place-requires
-    slide-items-requires
+    slide-places-requires
     slide-scores-requires
-    slide-scores-requires-2
     add-result
     same-length-4
     same-length-5

@@ -1,7 +1,7 @@
 -- `noting::shortlist::keep` meets its contract: an item whose seat is past the last place is left out, any other is slid in.
 -- Assumes nothing.
 use borrow.Author.Needs.{needs}
-use Rattle.noting.proofs.Keeping.{listing-out, listing-in}
+use Rattle.meeting.specs.Keeping.{stays-out, slid-in}
 use Rattle.noting.proofs.shortlist.keep.Statement.{statement}
 use Rattle.noting.proofs.shortlist.keep.Tie as tie
 
@@ -16,20 +16,15 @@ same-length-2 c = search needs
 
 returns : tie.Need-returns
 returns c =
-    let at-start = c .before .before .before .before .before .before in
-    let after-seat = c .before in
-    record {
-      inserts = λ f l picks₀ lows₀ at score new. listing-out at score new (at-start .pre) (after-seat .seat .ensures) (c .if1 .taken);
-    }
+    let at-start = (c .before .before .before .before .before .before) in
+    let after-seat = (c .before) in
+    stays-out (at-start .pre) (after-seat .seat .ensures) (c .if1 .taken)
 
 last-place-requires : tie.Need-last-place-requires
 last-place-requires c κs = search needs
 
-slide-items-requires : tie.Need-slide-items-requires
-slide-items-requires c κs = search needs
-
-slide-scores-requires : tie.Need-slide-scores-requires
-slide-scores-requires c κs = search needs
+slide-places-requires : tie.Need-slide-places-requires
+slide-places-requires c κs = search needs
 
 add-result : tie.Need-add-result
 add-result c = search needs
@@ -42,17 +37,12 @@ same-length-4 c = search needs
 
 returns-2 : tie.Need-returns-2
 returns-2 c =
-    let after-last-place = c .before .before .before .before .before .before .before .before in
-    let at-start = c .before .before .before .before .before .before .before .before .before .before .before .before .before .before .before in
-    let after-slide-items = c .before .before .before .before .before .before in
-    let after-slide-scores = c .before .before in
-    let after-seat = c .before .before .before .before .before .before .before .before .before .before in
-    let else1 = c .before .before .before .before .before .before .before .before .before in
-    record {
-      inserts = λ f l picks₀ lows₀ at score new.
-          listing-in at score new (at-start .pre) (after-seat .seat .ensures) (else1 .if1 .left) (after-last-place .last-place .ensures)
-          (after-slide-items .slide-items .ensures) (after-slide-scores .slide-scores .ensures);
-    }
+    let at-start = (c .before .before .before .before .before .before .before .before .before .before .before .before .before .before) in
+    let after-seat = (c .before .before .before .before .before .before .before .before .before) in
+    let else1 = (c .before .before .before .before .before .before .before .before) in
+    let last-is = (c .before .before .before .before .before .before .before) .last-place .ensures in
+    let slid = (c .before .before .before .before) .slide-places .ensures in
+    slid-in (at-start .pre) (after-seat .seat .ensures) (else1 .if1 .left) last-is (slid .0) (slid .1) (slid .1)
 
 pub keep-spec : {M : Type 1} → statement M
 keep-spec =
@@ -63,8 +53,7 @@ keep-spec =
     same-length-2
     returns
     last-place-requires
-    slide-items-requires
-    slide-scores-requires
+    slide-places-requires
     add-result
     same-length-3
     same-length-4

@@ -165,8 +165,9 @@ returns-2 c =
                 ∙ score-is s q (at-start .args .work .now) v w (at-start .args .d) small in
                 meets-new s q (at-start .args .work .now) v w whole a i p (at-start .args .d) hi hp found small at (visited-d after-visit)
                 (after-visit .visit .kept .1 .1 .1 .0) fresh
-                (after-keep .keep .ensures .inserts (total s q) (take (at-start .args .k) (ranking s q tr)) picks₀ lows₀ (at .shortlist) score
-                (not-kept s q (at-start .args .work .now) v w whole a i p (at-start .args .d) hi hp found small (at-start .args .k) fresh));
+                (after-keep .keep .ensures .inserts (total s q) (total s q) (take (at-start .args .k) (ranking s q tr)) picks₀ lows₀ lows₀ score score
+                (not-kept s q (at-start .args .work .now) v w whole a i p (at-start .args .d) hi hp found small (at-start .args .k) fresh)
+                (at .shortlist));
           };
     }
 

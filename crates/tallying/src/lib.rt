@@ -1,8 +1,9 @@
-// NRA's tally, written once: after p rows the first p positions of each list were visited once.
+// The tally written as a whole: cleared before visits are counted, or told once, after rows of which each position was visited once.
 ghost use mathlib.Core.Path.{_≡_};
+ghost use mathlib.Core.List.{_++_};
 ghost use Prim.Native.Nat.{_*_, _≤_};
 ghost use lib.Dec.{ltb};
-ghost use lib.ListN.{length, replicate};
+ghost use lib.ListN.{length, drop, replicate};
 ghost use Rattle.model.specs.Words.{row as rowOf, table, over};
 ghost use Rattle.laws.specs.Lookups.{once};
 
@@ -17,7 +18,15 @@ fn fill(part: &mut [u8], x: u8)
     }
 }
 
-// One list's part of the tally: two plain fills, with no test of an entry.
+// No position is visited yet: the first `size` entries are 0.
+pub fn clear(tally: &mut [u8], size: usize)
+    requires { ⌜ size ≤ length (now tally) ⌝ }
+    ensures { λ _. ⌜ now (tally .exit) ≡ replicate size 0 ++ drop size (now (tally .entry)) ⌝ }
+{
+    fill(&mut tally[0..size], 0);
+}
+
+// One list's part of the tally after p rows: two plain fills, with no test of an entry.
 fn fill_list(row: &mut [u8], p: usize)
     requires { ⌜ p ≤ length (now row) ⌝ }
     ensures { λ _. ⌜ now (row .exit) ≡ rowOf (λ q. once (ltb q p)) (length (now (row .entry))) ⌝ }

@@ -1,4 +1,4 @@
--- `bounded::tally::fill_tally` meets its contract. The loop's invariant: the parts of i lists are written; the measure is how many
+-- `tallying::fill_tally` meets its contract. The loop's invariant: the parts of i lists are written; the measure is how many
 -- lists are left.
 -- Assumes nothing.
 use borrow.Author.Needs.{needs}
@@ -12,9 +12,9 @@ use borrow.Rule.Slice.PartMut.{mid-len, same-len-mid}
 use Rattle.model.specs.Words.{row, table, over}
 use Rattle.laws.specs.Lists.{table-room}
 use Rattle.laws.specs.Lookups.{once}
-use Rattle.bounded.proofs.Filling.{table-more}
-use Rattle.bounded.proofs.tally.fill_tally.Statement.{statement}
-use Rattle.bounded.proofs.tally.fill_tally.Tie as tie
+use Rattle.tallying.proofs.Filling.{table-more}
+use Rattle.tallying.proofs.fill_tally.Statement.{statement}
+use Rattle.tallying.proofs.fill_tally.Tie as tie
 
 abbrev Inv-loop : tie.InvT-loop
 Inv-loop p m n tally₀ i₀ tally i = (i ≤ m) × (length tally ≡ length tally₀) × (tally ≡ over (table (λ i q. once (ltb q p)) n i) tally₀)

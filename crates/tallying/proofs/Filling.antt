@@ -1,4 +1,5 @@
 -- Slices written from the front, to their end or one list after the other.
+--     one-fill                   equal entries over the first part
 --     two-fills                  a list's part of the tally after p rows: ones, and zeros from there on
 --     table-more                 one row more of a table
 -- Assumes nothing.
@@ -9,7 +10,7 @@ use native.Mathlib.Nat.{add-zero, add-suc}
 use native.Mathlib.Numerals.{add-one}
 use native.Mathlib.Omega.{arith}
 use lib.Dec.{ltb}
-use lib.ListN.{length, replicate, length-replicate, replicate-append-replicate}
+use lib.ListN.{length, drop, replicate, length-replicate, replicate-append-replicate}
 use lib.Seq.{drop-length}
 use borrow.Author.Tests.{lt-ltb, le-ltb}
 use borrow.Rule.Slice.PartMut.{putMid}
@@ -20,6 +21,16 @@ use Rattle.laws.specs.Lookups.{once}
 over-whole : (l lent : List ℕ) → length l ≡ length lent → over l lent ≡ l
 unfolding over
 over-whole l lent e = rw (e, drop-length lent) (append-nil l)
+
+-- equal entries over the first part
+over-first : (lent : List ℕ) (size x : ℕ) → size ≤ length lent → putMid 0 (size - 0) lent (replicate size x) ≡ over (replicate size x) lent
+unfolding over
+over-first lent size x h = over-more [] (replicate size x) lent 0 size refl (omega (arith, length-replicate {A = ℕ} size x))
+
+pub one-fill : (lent : List ℕ) (size x : ℕ) → size ≤ length lent
+    → putMid 0 (size - 0) lent (replicate size x) ≡ replicate size x ++ drop size lent
+unfolding over
+one-fill lent size x h = over-first lent size x h ∙ rw (length-replicate {A = ℕ} size x) refl
 
 -- one entry more at the end of equal ones
 replicate-more : (c x : ℕ) → replicate c x ++ replicate 1 x ≡ replicate (suc c) x
@@ -56,7 +67,7 @@ module _ (p : ℕ) where
       let back : List ℕ = replicate rest 0 in
       let front-long : length front ≡ p = length-replicate p 1 in
       let whole : p + length back ≡ length lent = ap (λ (c : ℕ). p + c) (length-replicate rest 0) ∙ omega arith in
-      let first : putMid 0 (p - 0) lent front ≡ over front lent = over-more [] front lent 0 p refl (omega (arith, front-long)) in
+      let first : putMid 0 (p - 0) lent front ≡ over front lent = over-first lent p 1 h in
       ap (λ (l : List ℕ). putMid p rest l back) first
       ∙ over-more front back lent p (length lent) front-long whole
       ∙ ap (λ (l : List ℕ). over l lent) (ones-then-zeros (length lent) h)

@@ -1,4 +1,4 @@
--- `bounded::tally::fill` meets its contract. The loop's invariant: the first q entries are x and the rest as lent; the measure is how
+-- `tallying::fill` meets its contract. The loop's invariant: the first q entries are x and the rest as lent; the measure is how
 -- many are left.
 -- Assumes nothing.
 use mathlib.Core.Path.{_≡_, refl}
@@ -8,8 +8,8 @@ use native.Mathlib.Omega.{arith}
 use lib.ListN.{length, drop, replicate, length-set}
 use lib.Seq.{drop-length}
 use borrow.Author.Fill.{fill-more}
-use Rattle.bounded.proofs.tally.fill.Statement.{statement}
-use Rattle.bounded.proofs.tally.fill.Tie as tie
+use Rattle.tallying.proofs.fill.Statement.{statement}
+use Rattle.tallying.proofs.fill.Tie as tie
 
 abbrev Inv-loop : tie.InvT-loop
 Inv-loop part₀ x q₀ part q = (q ≤ length part₀) × (length part ≡ length part₀) × (part ≡ replicate q x ++ drop q part₀)

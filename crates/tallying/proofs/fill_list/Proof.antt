@@ -1,4 +1,4 @@
--- `bounded::tally::fill_list` meets its contract: ones are written over the first p entries, zeros over the others, and that is the row
+-- `tallying::fill_list` meets its contract: ones are written over the first p entries, zeros over the others, and that is the row
 -- of the definition (`two-fills`).
 -- Assumes nothing.
 use borrow.Author.Needs.{needs}
@@ -7,9 +7,9 @@ use Prim.Native.Nat.{ℕ, _-_}
 use native.Mathlib.Omega.{arith}
 use lib.ListN.{length, replicate}
 use borrow.Rule.Slice.PartMut.{midOf, putMid, mid-len, same-len-mid}
-use Rattle.bounded.proofs.Filling.{two-fills}
-use Rattle.bounded.proofs.tally.fill_list.Statement.{statement}
-use Rattle.bounded.proofs.tally.fill_list.Tie as tie
+use Rattle.tallying.proofs.Filling.{two-fills}
+use Rattle.tallying.proofs.fill_list.Statement.{statement}
+use Rattle.tallying.proofs.fill_list.Tie as tie
 
 sub-fill : tie.Need-sub-fill
 sub-fill c = search needs

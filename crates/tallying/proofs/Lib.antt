@@ -1,0 +1,3 @@
+-- Laws that the proofs of this crate cite.
+--     Filling    slices written from the front
+mod Filling
