@@ -2,7 +2,7 @@
  *
  *   driver K calls FUNCTION N    makes N calls
  *   driver K time FUNCTION       prints the least nanoseconds that a call took, as the mean of many calls in a row
- *   driver K same                makes each call by the proved function and by its twin; names the first that differ in any byte
+ *   driver K same                makes each call by the proved function and by its twins; names the first that differ in any byte
  *
  * The set is m and n (8 bytes each), then the items and the scores, list by list (2 bytes each), low byte first. The rule is the sum,
  * every weight 1. Status 1 where two differ, 2 where it is called wrongly. C99 without headers: a compiler for another machine may
@@ -34,7 +34,7 @@ typedef uint32_t search(size_t m, size_t n, const uint16_t *items, size_t items_
 typedef uint32_t check(size_t m, size_t n, const uint16_t *items, size_t items_len, const uint16_t *scores, size_t scores_len,
                        uint16_t *work, size_t work_len, uint32_t *told);
 extern search rutlark_ta, rutlark_bpa, rutlark_bpa2, rutlark_nra;
-extern search plain_ta, plain_bpa, plain_bpa2, plain_nra, plain_nra_recomputed, plain_scan;
+extern search plain_ta, plain_bpa, plain_bpa2, plain_nra, plain_nra_recomputed, plain_nra_where_asked, plain_scan;
 extern check rutlark_check_lists, plain_check_lists;
 
 /* Where Rust's own library is not linked, a panic comes here. */
@@ -61,11 +61,12 @@ static const struct function functions[] = {
     {"plain_bpa2", plain_bpa2, 0},
     {"rutlark_nra", rutlark_nra, 0},
     {"plain_nra", plain_nra, 0},
-    /* Without a proved one before them. */
+    /* NRA once more, and what has no proved twin. */
     {"plain_nra_recomputed", plain_nra_recomputed, 0},
+    {"plain_nra_where_asked", plain_nra_where_asked, 0},
     {"plain_scan", plain_scan, 0},
 };
-enum { TWINS = 5, FUNCTIONS = sizeof functions / sizeof *functions };
+enum { TWINS = 5, NRA = 8, FUNCTIONS = sizeof functions / sizeof *functions, SCAN = FUNCTIONS - 1 };
 
 static size_t m, n, k;
 static uint16_t items[MOST], scores[MOST];
@@ -112,16 +113,24 @@ static int read_set(void)
     return read_whole(items, 2 * m * n) && read_whole(scores, 2 * m * n);
 }
 
+static int differ(const struct function *a, const struct function *b)
+{
+    memset(&one, 0xA5, sizeof one);
+    memset(&other, 0xA5, sizeof other);
+    if (call(a, &one) == call(b, &other) && !memcmp(&one, &other, sizeof one))
+        return 0;
+    printf("%s and %s differ\n", a->name, b->name);
+    return 1;
+}
+
 static int same(void)
 {
-    for (int i = 0; i < TWINS; i++) {
-        memset(&one, 0xA5, sizeof one);
-        memset(&other, 0xA5, sizeof other);
-        if (call(&functions[2 * i], &one) != call(&functions[2 * i + 1], &other) || memcmp(&one, &other, sizeof one)) {
-            printf("%s and %s differ\n", functions[2 * i].name, functions[2 * i + 1].name);
+    for (int i = 0; i < TWINS; i++)
+        if (differ(&functions[2 * i], &functions[2 * i + 1]))
             return 1;
-        }
-    }
+    for (int i = 2 * TWINS; i < SCAN; i++)
+        if (differ(&functions[NRA], &functions[i]))
+            return 1;
     return 0;
 }
 

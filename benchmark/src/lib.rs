@@ -93,6 +93,7 @@ entry!(plain_bpa, scored::bpa);
 entry!(plain_bpa2, scored::bpa2);
 entry!(plain_nra, nra::nra);
 entry!(plain_nra_recomputed, nra::recomputed);
+entry!(plain_nra_where_asked, nra::recomputed_where_asked);
 entry!(plain_scan, scan::scan);
 
 /// What a search has done: rows or rounds, and the accesses by kind.

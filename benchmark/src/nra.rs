@@ -1,4 +1,4 @@
-//! NRA, kept up row by row, and the same search with every bound recomputed in each row.
+//! NRA, kept up row by row, and the same search with bounds recomputed in each row: every one, or only those that its test asks.
 #![forbid(unsafe_code)]
 
 use crate::query::{Lent, Tested};
@@ -120,15 +120,18 @@ impl<'a> Shortlist<'a> {
         }
     }
 
-    fn rank(&mut self, query: &Tested, rows: usize, work: &[u16]) {
+    fn rank(
+        &mut self,
+        query: &Tested,
+        rows: usize,
+        work: &[u16],
+        bounds: impl Fn(usize) -> (u32, u32),
+    ) {
         self.filled = 0;
         for item in 0..query.n {
             if query.seen(item, rows, work) {
-                self.keep(
-                    item as u16,
-                    query.low(item, rows, work),
-                    query.high(item, rows, work),
-                );
+                let (low, high) = bounds(item);
+                self.keep(item as u16, low, high);
             }
         }
     }
@@ -173,26 +176,49 @@ fn tallied(query: &Tested, rows: usize, tally: &mut [u8]) -> Done {
     }
 }
 
-/// As the search is described: in each row the first k are made anew from every item's bounds, and every other item's high is asked.
+/// As the search is described: in each row every bound of every item is computed, the first k are made anew from them, and every other
+/// item's high is asked.
 pub fn recomputed(query: &Tested, lent: &mut Lent) -> Done {
+    let mut bounds = [(0, 0); 1024];
+    row_by_row(query, lent, |shortlist, rows, work| {
+        for (item, bound) in bounds[..query.n].iter_mut().enumerate() {
+            *bound = (query.low(item, rows, work), query.high(item, rows, work));
+        }
+        shortlist.rank(query, rows, work, |item| bounds[item]);
+        shortlist.stands(query.n, |item| bounds[item].1)
+    })
+}
+
+/// The same, but a bound is computed only where it is asked: both of a met item, and the other highs up to one that is in the way.
+pub fn recomputed_where_asked(query: &Tested, lent: &mut Lent) -> Done {
+    row_by_row(query, lent, |shortlist, rows, work| {
+        let high = |item| query.high(item, rows, work);
+        shortlist.rank(query, rows, work, |item| {
+            (query.low(item, rows, work), high(item))
+        });
+        shortlist.stands(query.n, high)
+    })
+}
+
+fn row_by_row(
+    query: &Tested,
+    lent: &mut Lent,
+    mut stands_after: impl FnMut(&mut Shortlist, usize, &[u16]) -> bool,
+) -> Done {
     let work = &lent.work[..query.m * query.n];
     let mut shortlist = Shortlist::over(query.k, lent.picks, lent.lows, lent.highs);
-    let mut rows = 0;
-    let mut stopped = false;
-    while !stopped {
+    let mut rows = 1;
+    while !stands_after(&mut shortlist, rows, work) && rows < query.n {
         rows += 1;
-        shortlist.rank(query, rows, work);
-        stopped = rows == query.n || shortlist.stands(query, rows, work);
     }
     tallied(query, rows, lent.tally)
 }
 
 impl Shortlist<'_> {
-    fn stands(&self, query: &Tested, rows: usize, work: &[u16]) -> bool {
+    fn stands(&self, n: usize, high: impl Fn(usize) -> u32) -> bool {
         let k = self.picks.len();
         let kept = |item: usize| self.picks.contains(&(item as u16));
         let last = self.lows[k - 1];
-        self.filled == k
-            && (0..query.n).all(|item| query.high(item, rows, work) <= last || kept(item))
+        self.filled == k && (0..n).all(|item| high(item) <= last || kept(item))
     }
 }
