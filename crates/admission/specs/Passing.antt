@@ -1,5 +1,5 @@
 -- What a search may rest on once its tests are passed.
---     Passed, passed     the lists are valid and their places are in the work slice, k and the weights are right, the slices have room
+--     TestsPassed, passed     the lists are valid and their places are in the work slice, k and the weights are right, the slices have room
 -- Assumes nothing.
 use mathlib.Core.Path.{_≡_}
 use mathlib.Core.List.{List}
@@ -13,7 +13,7 @@ use Rattle.admission.specs.Contracts.{shapeOf, Admitted}
 use Rattle.admission.specs.Shapes.{weights-long, weight-small, k-passes, shape-told}
 
 -- What the tests of a search let pass, with whatever slices of these lengths
-pub record Passed (m n rule k : ℕ) (weights items scores : List ℕ) (picks lows highs tally : ℕ) (work after : List ℕ) : Type 0 where
+pub record TestsPassed (m n rule k : ℕ) (weights items scores : List ℕ) (picks lows highs tally : ℕ) (work after : List ℕ) : Type 0 where
   pub lists-valid : Valid (poses m n items scores)
   pub work-placed : Placed (poses m n items scores) after
   pub k-least : 1 ≤ k
@@ -28,7 +28,7 @@ pub record Passed (m n rule k : ℕ) (weights items scores : List ℕ) (picks lo
 
 pub passed : {m n rule k : ℕ} {weights items scores : List ℕ} {picks lows highs tally : ℕ} {work : List ℕ} {r : Checked} {after : List ℕ}
     → Admitted m n rule k weights items scores picks lows highs tally work r after → r .number ≡ 0
-    → Passed m n rule k weights items scores picks lows highs tally work after
+    → TestsPassed m n rule k weights items scores picks lows highs tally work after
 passed {m} {n} {rule} {k} {weights} {items} {scores} {picks} {lows} {highs} {tally} {work} a none =
     let all = a .shaped none in
     let h = shape-told m n rule k weights (length items) (length scores) picks lows highs tally (length work) all in

@@ -18,7 +18,7 @@ use Rattle.laws.specs.Verdicts.{by-verdict, told-zero}
 use Rattle.lists.specs.declared.Checked.{Checked}
 use Rattle.lists.specs.Contracts.{poses, valueOf}
 use Rattle.running.specs.Contracts.{searchAt, Did, Runs}
-use Rattle.admission.specs.Passing.{Passed}
+use Rattle.admission.specs.Passing.{TestsPassed}
 use Rattle.meeting.specs.declared.Done.{Done}
 use Rattle.meeting.specs.Contracts.{queryWith, Readable, Ran}
 use Rattle.answering.specs.declared.Answer.{Answer}
@@ -58,7 +58,7 @@ same-query l numbers d = λ j. record { rule = l .rule; weight = λ i. d .weight
 
 -- all that a run may read
 pub readable : {m n rule k : ℕ} {weights items scores : List ℕ} {picks lows highs tally : ℕ} {work after : List ℕ} (numbers : List ℕ)
-    → Passed m n rule k weights items scores picks lows highs tally work after → Decoded weights numbers
+    → TestsPassed m n rule k weights items scores picks lows highs tally work after → Decoded weights numbers
     → ((j : ℕ) → getD scores j 0 ≤ 65535) → Readable (poses m n items scores) (queryWith rule numbers) after
 readable numbers through decoded small =
     record {

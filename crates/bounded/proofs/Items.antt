@@ -27,7 +27,7 @@ use Rattle.halting.specs.Marks.{mark-above, reach-is}
 use Rattle.ending.specs.Contracts.{Kth}
 use Rattle.meeting.specs.Shortlist.{Inserted}
 use Rattle.meeting.specs.Keeping.{listing-none}
-use Rattle.bounded.specs.Contracts.{heldOf, reachesOf, frontOf, Listed, Passed, Considered}
+use Rattle.bounded.specs.Contracts.{heldOf, reachesOf, frontOf, HeldIn, FrontIn, Considered}
 
 module _ (v : View) (k p bar : ℕ) where
   front-none : frontOf v k p bar 0 ≡ []
@@ -52,12 +52,12 @@ module _ (v : View) (k p bar : ℕ) where
       never (among d (frontOf v k p bar d))
       (λ y. let small = kept-item (ahead (boundOf v false p) (boundOf v true p)) (reachesOf v p bar) d k d y .0 in omega arith)
 
-  pub passed-none : (picks lows highs : List ℕ) → Passed v k p bar 0 picks lows highs 0 picks lows highs
+  pub passed-none : (picks lows highs : List ℕ) → FrontIn v k p bar 0 picks lows highs 0 picks lows highs
   passed-none picks lows highs =
       record { listing = rw front-none (listing-none (boundOf v false p) (boundOf v true p) picks lows highs) }
 
   module _ {picks₀ lows₀ highs₀ picks lows highs : List ℕ} {d filled : ℕ}
-      (at : Passed v k p bar d picks₀ lows₀ highs₀ filled picks lows highs) where
+      (at : FrontIn v k p bar d picks₀ lows₀ highs₀ filled picks lows highs) where
     pub passed-most : filled ≤ k
     unfolding frontOf held
     passed-most =
@@ -65,7 +65,7 @@ module _ (v : View) (k p bar : ℕ) where
 
     passed-in : {low high r : ℕ} {picks′ lows′ highs′ : List ℕ} → reachesOf v p bar d ≡ true → low ≡ boundOf v false p d
         → high ≡ boundOf v true p d → Inserted d low high k filled picks lows highs r picks′ lows′ highs′
-        → Passed v k p bar (d + 1) picks₀ lows₀ highs₀ r picks′ lows′ highs′
+        → FrontIn v k p bar (d + 1) picks₀ lows₀ highs₀ r picks′ lows′ highs′
     passed-in y low-is high-is new =
         record {
           listing =
@@ -74,7 +74,7 @@ module _ (v : View) (k p bar : ℕ) where
               (at .listing));
         }
 
-    passed-out : reachesOf v p bar d ≡ false → Passed v k p bar (d + 1) picks₀ lows₀ highs₀ filled picks lows highs
+    passed-out : reachesOf v p bar d ≡ false → FrontIn v k p bar (d + 1) picks₀ lows₀ highs₀ filled picks lows highs
     passed-out z = record { listing = rw (add-one d, front-out d z) (at .listing) }
 
 -- ---- one item, by its mark
@@ -132,6 +132,6 @@ module _ {v : View} {k p top : ℕ} {marks : List ℕ} (w : Legible v p) (noted 
       (omega (arith, kth .barred (omega (arith, eqb-false top 0 z)) .reached, reach-is w noted bar))))
 
   pub listed-all : {picks₀ lows₀ highs₀ picks lows highs : List ℕ} {filled : ℕ}
-      → Passed v k p (top - 1) (v .n) picks₀ lows₀ highs₀ filled picks lows highs
-      → Listed v k p (v .n) picks₀ lows₀ highs₀ filled picks lows highs
+      → FrontIn v k p (top - 1) (v .n) picks₀ lows₀ highs₀ filled picks lows highs
+      → HeldIn v k p (v .n) picks₀ lows₀ highs₀ filled picks lows highs
   listed-all at = record { listing = rw front-held at (at .listing) }

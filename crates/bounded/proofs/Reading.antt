@@ -35,7 +35,7 @@ use Rattle.halting.specs.Marks.{halts-few}
 use Rattle.leading.specs.Contracts.{Leading}
 use Rattle.leading.specs.Floor.{led-few}
 use Rattle.ending.specs.Contracts.{Sought, Halted}
-use Rattle.bounded.specs.Contracts.{heldOf, Listed, Finished}
+use Rattle.bounded.specs.Contracts.{heldOf, HeldIn, Finished}
 
 -- ---- equal lows, highs and met items
 module _ (n k : ℕ) (low high low′ high′ : ℕ → ℕ) (met met′ : ℕ → Bool)
@@ -192,7 +192,7 @@ module _ (m n rule : ℕ) (weights items scores work : List ℕ) (w : Readable (
 
   module _ {k r filled : ℕ} {picks₀ lows₀ highs₀ tally₀ picks lows highs tally′ : List ℕ}
       (room : Room s k picks₀ lows₀ highs₀ tally₀) (found : Halted v k r)
-      (at : Listed v k r n picks₀ lows₀ highs₀ filled picks lows highs) (written : tally′ ≡ over (table (λ i q. once (ltb q r)) n m) tally₀) where
+      (at : HeldIn v k r n picks₀ lows₀ highs₀ filled picks lows highs) (written : tally′ ≡ over (table (λ i q. once (ltb q r)) n m) tally₀) where
     holds : r < n → stops s k (NRA s q) r ≡ true
     holds h = sym (stops-is k r (found .row-least)) ∙ found .holds h
 

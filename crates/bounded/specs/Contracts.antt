@@ -1,8 +1,8 @@
 -- The records that the contracts of `bounded` cite.
 --     heldOf                 the first k met items below c, in the order
 --     reachesOf, frontOf     an item is met and its low reaches a bar; the first k of these below c
---     Listed                 the first k met items below c after p rows, in the three slices
---     Passed, Considered     the same of the items that reach a bar; one item more
+--     HeldIn                 the first k met items below c after p rows, in the three slices
+--     FrontIn, Considered    the same of the items that reach a bar; one item more
 --     Finished               what the run of NRA promises
 -- Assumes nothing.
 use mathlib.Core.Path.{_≡_}
@@ -31,17 +31,17 @@ frontOf v k p bar c = held c k (boundOf v false p) (boundOf v true p) (reachesOf
 
 -- ---- the items one after the other
 -- The first k of the met items below c
-pub record Listed (v : View) (k p c : ℕ) (picks₀ lows₀ highs₀ : List ℕ) (filled : ℕ) (picks lows highs : List ℕ) : Type 0 where
+pub record HeldIn (v : View) (k p c : ℕ) (picks₀ lows₀ highs₀ : List ℕ) (filled : ℕ) (picks lows highs : List ℕ) : Type 0 where
   pub listing : Listing (boundOf v false p) (boundOf v true p) (heldOf v k p c) picks₀ lows₀ highs₀ filled picks lows highs
 
 -- The first k of the items below c that reach the bar
-pub record Passed (v : View) (k p bar c : ℕ) (picks₀ lows₀ highs₀ : List ℕ) (filled : ℕ) (picks lows highs : List ℕ) : Type 0 where
+pub record FrontIn (v : View) (k p bar c : ℕ) (picks₀ lows₀ highs₀ : List ℕ) (filled : ℕ) (picks lows highs : List ℕ) : Type 0 where
   pub listing : Listing (boundOf v false p) (boundOf v true p) (frontOf v k p bar c) picks₀ lows₀ highs₀ filled picks lows highs
 
 -- Of the first k below d, the first k below d + 1
 pub record Considered (v : View) (k p bar d filled : ℕ) (picks lows highs : List ℕ) (r : ℕ) (picks′ lows′ highs′ : List ℕ) : Type 0 where
-  pub considers : (picks₀ lows₀ highs₀ : List ℕ) → Passed v k p bar d picks₀ lows₀ highs₀ filled picks lows highs
-      → Passed v k p bar (d + 1) picks₀ lows₀ highs₀ r picks′ lows′ highs′
+  pub considers : (picks₀ lows₀ highs₀ : List ℕ) → FrontIn v k p bar d picks₀ lows₀ highs₀ filled picks lows highs
+      → FrontIn v k p bar (d + 1) picks₀ lows₀ highs₀ r picks′ lows′ highs′
 
 -- The run of NRA: the row after which it stops, and the four slices as they are then
 pub record Finished (s : Poses) (q : Query) (k r : ℕ) (picks₀ lows₀ highs₀ tally₀ picks lows highs tally : List ℕ) : Type 0 where

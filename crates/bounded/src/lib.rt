@@ -13,7 +13,7 @@ ghost use Rattle.meeting.specs.Contracts.{queryWith, Readable, Room};
 ghost use Rattle.meeting.specs.Shortlist.{Spaced, Keeps};
 ghost use Rattle.halting.specs.Contracts.{view, Legible, Marked};
 ghost use Rattle.ending.specs.Contracts.{Kth};
-ghost use Rattle.bounded.specs.Contracts.{Listed, Considered, Finished};
+ghost use Rattle.bounded.specs.Contracts.{HeldIn, Considered, Finished};
 
 fn narrow(x: usize) -> u16
     requires { ⌜ x < 65536 ⌝ }
@@ -77,7 +77,7 @@ fn rank(
     requires { ⌜ Legible (view m n rule weights (now scores) (now work)) p
         × Marked (view m n rule weights (now scores) (now work)) p (now marks) × Kth n k (now marks) top
         × (1 ≤ top) × Spaced k (now picks) (now lows) (now highs) ⌝ }
-    ensures { λ r. ⌜ Listed (view m n rule weights (now (scores .entry)) (now (work .entry))) k p n
+    ensures { λ r. ⌜ HeldIn (view m n rule weights (now (scores .entry)) (now (work .entry))) k p n
         (now (picks .entry)) (now (lows .entry)) (now (highs .entry)) r (now (picks .exit)) (now (lows .exit))
         (now (highs .exit)) ⌝ }
 {

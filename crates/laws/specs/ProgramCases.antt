@@ -2,7 +2,7 @@
 -- each part, in the order query, lists, searches; numbers as text.
 --     Spelled, spelled       a number and its text
 --     linesOfB               the output of case B, in ASCII, a line to a line
---     Shown, shown           an input and the text that is printed for it
+--     ShownCase, shown       an input and the text that is printed for it
 -- Assumes nothing.
 use mathlib.Core.Path.{_≡_, refl}
 use mathlib.Core.List.{List, [], _∷_, _++_, map}
@@ -51,11 +51,11 @@ linesOfB =
     ++ (66 ∷ 80 ∷ 65 ∷ 50 ∷ 32 ∷ 50 ∷ 32 ∷ 48 ∷ 32 ∷ 53 ∷ 32 ∷ 49 ∷ 48 ∷ 32 ∷ 50 ∷ 58 ∷ 56 ∷ 51 ∷ 58 ∷ 56 ∷ 51 ∷ 32 ∷ 48 ∷ 58 ∷ 56 ∷ 50 ∷ 58 ∷ 56 ∷ 50 ∷ 32 ∷ 49 ∷ 58 ∷ 56 ∷ 49 ∷ 58 ∷ 56 ∷ 49 ∷ 32 ∷ 51 ∷ 58 ∷ 50 ∷ 55 ∷ 58 ∷ 50 ∷ 55 ∷ 10 ∷ [])
     ++ (78 ∷ 82 ∷ 65 ∷ 32 ∷ 53 ∷ 32 ∷ 49 ∷ 53 ∷ 32 ∷ 48 ∷ 32 ∷ 48 ∷ 32 ∷ 50 ∷ 58 ∷ 56 ∷ 51 ∷ 58 ∷ 56 ∷ 51 ∷ 32 ∷ 48 ∷ 58 ∷ 56 ∷ 50 ∷ 58 ∷ 56 ∷ 50 ∷ 32 ∷ 49 ∷ 58 ∷ 56 ∷ 49 ∷ 58 ∷ 56 ∷ 49 ∷ 32 ∷ 51 ∷ 58 ∷ 50 ∷ 55 ∷ 58 ∷ 50 ∷ 55 ∷ 10 ∷ [])
 
-pub record Shown : Type 0 where
+pub record ShownCase : Type 0 where
   pub input : List ℕ
   pub output : List ℕ
 
-abbrev shows : List ℕ → List ℕ → Shown
+abbrev shows : List ℕ → List ℕ → ShownCase
 shows input output = record { input = input; output = output }
 
 -- `REFUSED`, a number by its digits, and 0 0
@@ -66,7 +66,7 @@ refusedBy digits = (82 ∷ 69 ∷ 70 ∷ 85 ∷ 83 ∷ 69 ∷ 68 ∷ 32 ∷ []) 
 unfoldable pub itemTooLarge : List ℕ
 itemTooLarge = queryOfB ++ take 18 listsOfB ++ (0 ∷ 5 ∷ []) ++ drop 20 listsOfB
 
-unfoldable pub shown : List Shown
+unfoldable pub shown : List ShownCase
 shown =
     shows (queryOfB ++ listsOfB) linesOfB
     -- too few bytes for the query's head, and for that of the lists
@@ -79,6 +79,6 @@ shown =
     ∷ shows itemTooLarge (82 ∷ 69 ∷ 70 ∷ 85 ∷ 83 ∷ 69 ∷ 68 ∷ 32 ∷ 55 ∷ 32 ∷ 49 ∷ 32 ∷ 50 ∷ 10 ∷ [])
     ∷ []
 
-pub inputs-shown : map (λ (x : Shown). program (x .input)) shown ≡ map (λ (x : Shown). x .output) shown
+pub inputs-shown : map (λ (x : ShownCase). program (x .input)) shown ≡ map (λ (x : ShownCase). x .output) shown
 unfolding program-opened queryOfB listsOfB linesOfB itemTooLarge shown
 inputs-shown = refl

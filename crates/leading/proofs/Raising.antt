@@ -22,7 +22,7 @@ use Rattle.laws.specs.Lookups.{once}
 use Rattle.laws.specs.Passing.{passing-most, passing-same, passing-none, passing-some, passing-wider}
 use Rattle.meeting.specs.Contracts.{slid}
 use Rattle.halting.specs.Contracts.{reachOf}
-use Rattle.leading.specs.Contracts.{Led, Seat, Raised}
+use Rattle.leading.specs.Contracts.{Led, SeatBehind, Raised}
 use Rattle.leading.specs.Floor.{led-falls, under-floor, above-floor}
 use Rattle.leading.proofs.Slid.{slid-length, slid-front, slid-seat, slid-moved, slid-behind, slid-reach, passing-slid}
 
@@ -82,7 +82,7 @@ module _ {n k : ℕ} {marks tops : List ℕ} (led : Led n k marks tops) (some : 
       absurd (omega (arith, led .counts top)))
 
   -- no entry of the k greatest is the old mark: above it are as many as above one less
-  no-entry : (last : ℕ) → Seat old k tops (suc last) → old < getD tops last 0 → (bar : ℕ) → suc bar ≡ old
+  no-entry : (last : ℕ) → SeatBehind old k tops (suc last) → old < getD tops last 0 → (bar : ℕ) → suc bar ≡ old
       → reachOf k tops bar ≡ reachOf k tops old
   unfolding reachOf
   no-entry last behind over bar next =
@@ -112,7 +112,7 @@ module _ {n k : ℕ} {marks tops : List ℕ} (led : Led n k marks tops) (some : 
       )
 
   -- so where it is above the least, an entry is the old mark, and it is the last that is not less
-  own-entry : (last : ℕ) → Seat old k tops (suc last) → floor < old → getD tops last 0 ≡ old
+  own-entry : (last : ℕ) → SeatBehind old k tops (suc last) → floor < old → getD tops last 0 ≡ old
   own-entry last behind above =
       by-cases (ltb old (getD tops last 0))
       (λ y.
@@ -131,7 +131,7 @@ module _ {n k : ℕ} {marks tops : List ℕ} (led : Led n k marks tops) (some : 
       (λ z. omega (arith, ltb-false old (getD tops last 0) z, behind .front-not-less last refl))
 
   -- the entry that goes: the old mark's own where it is among the k greatest, else the least
-  gone-is : (last : ℕ) → Seat old k tops (suc last) → getD tops last 0 ≡ max floor old
+  gone-is : (last : ℕ) → SeatBehind old k tops (suc last) → getD tops last 0 ≡ max floor old
   gone-is last behind =
       by-cases (ltb floor old)
       (λ y.
@@ -160,7 +160,7 @@ module _ {n k : ℕ} {marks tops : List ℕ} (led : Led n k marks tops) (some : 
         }
 
     -- it is, and is slid in
-    module _ (at last : ℕ) (behind : Seat old k tops (suc last)) (seat : Seat new last tops at) (over : floor < new) where
+    module _ (at last : ℕ) (behind : SeatBehind old k tops (suc last)) (seat : SeatBehind new last tops at) (over : floor < new) where
       abbrev inside : last < length tops
       inside = omega (arith, behind .seat-most, led .tops-long)
 
@@ -258,11 +258,11 @@ raised-stays {k} {old} {new} some under =
     record { raises = λ n d marks long small is rises led. raised-under led some long d small new (omega arith) under }
 
 pub raised-slid : {k old new at behind : ℕ} {tops : List ℕ} → 1 ≤ k → getD tops (k - 1) 0 < new → 1 ≤ behind
-    → Seat old k tops behind → Seat new (behind - 1) tops at → Raised k old new tops (slid at (behind - 1) new tops)
+    → SeatBehind old k tops behind → SeatBehind new (behind - 1) tops at → Raised k old new tops (slid at (behind - 1) new tops)
 raised-slid {k} {old} {new} {at} {behind} {tops} some over one back seat =
     let next : suc (behind - 1) ≡ behind = omega arith in
     record {
       raises = λ n d marks long small is rises led.
-          let own : Seat (getD marks d 0) k tops (suc (behind - 1)) = rw (is, next) back in
+          let own : SeatBehind (getD marks d 0) k tops (suc (behind - 1)) = rw (is, next) back in
           raised-in led some long d small new (omega arith) at (behind - 1) own seat over;
     }

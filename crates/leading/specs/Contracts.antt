@@ -2,8 +2,8 @@
 --     Led            the k greatest of n marks, falling: above any bar stand as many of them as marks do, or all k
 --     Leading        each item's mark after p rows, and the k greatest of them
 --     itemAt, Rowed  the item at row p of a list; what these items are
---     Reading        what reading a row asks, apart from the marks
---     Seat           where a value stands among falling ones
+--     ReadableRow    what reading a row asks, apart from the marks
+--     SeatBehind     where a value stands among falling ones
 --     Raised         of any marks, the k greatest once one of them is raised
 --     stands, rowMark, Begun     an item stands at row p of one of the first i lists; its mark, and every item's, once these lists' row p is read
 -- Assumes nothing.
@@ -39,13 +39,13 @@ pub record Rowed (v : View) (items : List ℕ) (p : ℕ) : Type 0 where
   pub item-there : (i d : ℕ) → i < v .m → d < v .n → getD (v .work) (i * v .n + d) 0 ≡ p → itemAt v items p i ≡ d
 
 -- What reading row p asks, apart from the marks
-pub record Reading (v : View) (items : List ℕ) (p k : ℕ) : Type 0 where
+pub record ReadableRow (v : View) (items : List ℕ) (p k : ℕ) : Type 0 where
   pub legible : Legible v p
   pub rowed : Rowed v items p
   pub k-least : 1 ≤ k
 
 -- x stands at r: behind one that is not less, and all from r up to `end` are less
-pub record Seat (x end : ℕ) (tops : List ℕ) (r : ℕ) : Type 0 where
+pub record SeatBehind (x end : ℕ) (tops : List ℕ) (r : ℕ) : Type 0 where
   pub seat-most : r ≤ end
   pub front-not-less : (j : ℕ) → suc j ≡ r → x ≤ getD tops j 0
   pub rest-less : (j : ℕ) → r ≤ j → j < end → getD tops j 0 < x

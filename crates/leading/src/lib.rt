@@ -8,13 +8,13 @@ ghost use mathlib.Core.Path.{_≡_};
 ghost use Prim.Native.Nat.{_+_, _-_, _≤_, _<_};
 ghost use lib.ListN.{length, getD};
 ghost use Rattle.halting.specs.Contracts.{view, metOf, markOf, Legible};
-ghost use Rattle.leading.specs.Contracts.{Led, Leading, Reading, Seat, Raised, Begun};
+ghost use Rattle.leading.specs.Contracts.{Led, Leading, ReadableRow, SeatBehind, Raised, Begun};
 
 // Behind how many of the first `end` entries x stands: the walk is from the last of them to the front, up
 // to one that is not less.
 fn seat(x: u32, end: usize, tops: &[u32]) -> usize
     requires { ⌜ end ≤ length (now tops) ⌝ }
-    ensures { λ r. ⌜ Seat x end (now (tops .entry)) r ⌝ }
+    ensures { λ r. ⌜ SeatBehind x end (now (tops .entry)) r ⌝ }
 {
     let mut j = end;
     while 0 < j {
@@ -77,7 +77,7 @@ fn read_entry(
     marks: &mut [u32],
     tops: &mut [u32],
 )
-    requires { ⌜ Reading (view m n rule weights (now scores) (now work)) (now items) p k × (i < m)
+    requires { ⌜ ReadableRow (view m n rule weights (now scores) (now work)) (now items) p k × (i < m)
         × Begun (view m n rule weights (now scores) (now work)) (now items) p i (now marks)
         × Led n k (now marks) (now tops) ⌝ }
     ensures { λ _. ⌜ Begun (view m n rule weights (now (scores .entry)) (now (work .entry)))
@@ -107,7 +107,7 @@ pub fn read_row(
     marks: &mut [u32],
     tops: &mut [u32],
 )
-    requires { ⌜ Reading (view m n rule weights (now scores) (now work)) (now items) p k
+    requires { ⌜ ReadableRow (view m n rule weights (now scores) (now work)) (now items) p k
         × Leading (view m n rule weights (now scores) (now work)) (p - 1) k (now marks) (now tops) ⌝ }
     ensures { λ _. ⌜ Leading (view m n rule weights (now (scores .entry)) (now (work .entry))) p k
         (now (marks .exit)) (now (tops .exit)) ⌝ }

@@ -26,7 +26,7 @@ use Rattle.meeting.specs.Shortlist.{Keeps, Listing, Inserted}
 use Rattle.meeting.specs.Sliding.{slid-size, slid-inserts, slid-maps}
 
 -- Item d, that is not among l, belongs at r: before each that follows, and not before the one in front
-pub record Seat (f g : ℕ → ℕ) (l : List ℕ) (d k r : ℕ) : Type 0 where
+record Seat (f g : ℕ → ℕ) (l : List ℕ) (d k r : ℕ) : Type 0 where
   pub in-order : Sorted (ahead f g) l
   pub new : among d l ≡ false
   pub most : length l ≤ k

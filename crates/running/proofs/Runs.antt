@@ -16,7 +16,7 @@ use Rattle.laws.specs.Accepted.{Valid}
 use Rattle.demands.specs.Promised.{promised}
 use Rattle.meeting.specs.declared.Done.{Done}
 use Rattle.meeting.specs.Contracts.{Ran}
-use Rattle.scored.specs.Run.{searchBy, search-ta, search-bpa, search-bpa2, Ran as ScoredRan}
+use Rattle.scored.specs.Run.{searchBy, search-ta, search-bpa, search-bpa2, RanBy}
 use Rattle.bounded.specs.Contracts.{Finished}
 use Rattle.running.specs.Contracts.{searchAt, Did, OnlySorted, Runs}
 
@@ -46,7 +46,7 @@ kept-k (suc (suc (suc which))) s q k h v some most = absurd (omega (arith, h))
 
 module _ (which : ℕ) (s : Poses) (q : Query) (k : ℕ) (picks₀ lows₀ highs₀ tally₀ : List ℕ) (d : Done) (picks lows highs marks : List ℕ) where
   pub scored-runs : which ≤ 2 → Valid s → 1 ≤ k → k ≤ s .n
-      → ScoredRan which s q k picks₀ lows₀ tally₀ d picks lows marks → highs ≡ over (take k lows) highs₀
+      → RanBy which s q k picks₀ lows₀ tally₀ d picks lows marks → highs ≡ over (take k lows) highs₀
       → Runs which s q k picks₀ lows₀ highs₀ tally₀ d picks lows highs marks
   unfolding searchBy byScore
   scored-runs few v some most ran copied =

@@ -31,8 +31,8 @@ use Rattle.meeting.specs.declared.Done.{Done}
 use Rattle.meeting.specs.Shortlist.{Keeps}
 use Rattle.noting.specs.Contracts.{Advancing}
 use Rattle.stepping.specs.declared.rows.Turn.{Turn}
-use Rattle.stepping.specs.State.{ranking, State, Standing, Reached}
-use Rattle.scored.specs.Run.{stepsBy, reachBy, kindBy, searchBy, Stepped, Placed, Counted, Ran}
+use Rattle.stepping.specs.State.{ranking, State, Standing, VisitedUpTo}
+use Rattle.scored.specs.Run.{stepsBy, reachBy, kindBy, searchBy, Stepped, Positioned, Counted, RanBy}
 use Rattle.laws.specs.Lists.{over-over}
 use Rattle.stepping.specs.Steps.{keeps-now, small-of}
 use Rattle.stepping.specs.Best.{walked-best, walkable-of}
@@ -66,7 +66,7 @@ pub record Between (which : ℕ) (s : Poses) (q : Query) (k : ℕ) (picks₀ low
     (found p : ℕ) : Type 0 where
   pub not-last : p < s .n
   pub state : State s q k (stepsBy which s p) picks₀ lows₀ tally₀ filled picks lows marks
-  pub reached : Reached s (stepsBy which s p) reach
+  pub reached : VisitedUpTo s (stepsBy which s p) reach
   pub counted : found ≡ made (kindBy which) (stepsBy which s p)
   pub few : found ≤ p * s .m
   pub not-yet : (x : ℕ) → 1 ≤ x → x ≤ p → stops s k (searchBy which s q) x ≡ false
@@ -124,7 +124,7 @@ module _ (m n rule : ℕ) (weights items scores work : List ℕ) (r : Readable (
             walkable = λ i hi. walkable-of m n rule weights items scores work r state-then i (getD (t .best) i 0) hi long (step .reached i hi);
           }
 
-      pub row-made : {reach′ : List ℕ} → Placed which (p + 1) m n marks′ reach′
+      pub row-made : {reach′ : List ℕ} → Positioned which (p + 1) m n marks′ reach′
           → After which s q k picks₀ lows₀ tally₀ (t .filled) picks′ lows′ marks′ reach′ (found + t .found) (p + 1)
       unfolding reachBy
       row-made places =
@@ -181,7 +181,7 @@ module _ (m n rule : ℕ) (weights items scores work : List ℕ) (r : Readable (
     pub run-ends : (marks₀ : List ℕ) {d : Done}
         → (eqb p n || (leb k filled && leb (limitAt rule weights m n reach scores) (getD lows (k - 1) 0))) ≡ true
         → Counted which p m found d → tally₀ ≡ over (replicate (m * n) 0) marks₀
-        → Ran which s q k picks₀ lows₀ marks₀ d picks lows marks
+        → RanBy which s q k picks₀ lows₀ marks₀ d picks lows marks
     unfolding tally
     run-ends marks₀ {d} ends counts cleared =
         let row = counts .rows-are in

@@ -36,7 +36,7 @@ use Rattle.laws.specs.Overall.{joined-same}
 use Rattle.lists.specs.Contracts.{poses}
 use Rattle.meeting.specs.Contracts.{queryWith, limitAt}
 use Rattle.meeting.specs.Keeping.{listing-none}
-use Rattle.stepping.specs.State.{ranking, State, Reached}
+use Rattle.stepping.specs.State.{ranking, State, VisitedUpTo}
 use Rattle.scored.specs.Run.{stepsBy, reachBy, kindBy, searchBy}
 
 -- ---- the numbers
@@ -57,7 +57,7 @@ unfolding kindBy
 kind-sorted which h = rw (ne-eqb which 2 h)
 
 -- ---- a row more
-pub row-reached : (s : Poses) (p : ℕ) (reach : List ℕ) → Reached s (rowsTA s p) reach → Reached s (rowsTA s (p + 1)) reach
+pub row-reached : (s : Poses) (p : ℕ) (reach : List ℕ) → VisitedUpTo s (rowsTA s p) reach → VisitedUpTo s (rowsTA s (p + 1)) reach
 unfolding rowsTA
 row-reached s p reach reached i hi =
     rw (add-one p)

@@ -2,9 +2,9 @@
 --     stepsBy, reachBy, kindBy       the accesses of p rows or rounds; the threshold's positions; the kind of the accesses that find
 --     searchBy                       the search; `search-ta`, `search-bpa`, `search-bpa2` say which it is
 --     Stepping, Stepped              what one row or round asks and promises
---     Placed                         what the threshold's positions are
+--     Positioned                     what the threshold's positions are
 --     Counting, Counted              what the counts ask, and what they are
---     Running, Ran                   what a run asks and promises
+--     Running, RanBy                 what a run asks and promises
 -- Assumes nothing.
 use mathlib.Core.Path.{_≡_, refl}
 use mathlib.Core.Bool.{cond}
@@ -21,7 +21,7 @@ use Rattle.meeting.specs.declared.Done.{Done}
 use Rattle.meeting.specs.Shortlist.{Keeps}
 use Rattle.noting.specs.Contracts.{walkedTo}
 use Rattle.stepping.specs.declared.rows.Turn.{Turn}
-use Rattle.stepping.specs.State.{Goes, Standing, Reached}
+use Rattle.stepping.specs.State.{Goes, Standing, VisitedUpTo}
 
 -- the accesses of the first p rows of TA and BPA, or rounds of BPA2
 unfoldable pub stepsBy : ℕ → Poses → ℕ → List Access
@@ -54,19 +54,19 @@ search-bpa2 s q = refl
 -- After p rows or rounds, with more to come
 pub record Stepping (which p : ℕ) (s : Poses) (q : Query) (k filled : ℕ) (reach picks lows marks work : List ℕ) : Type 0 where
   pub standing : Standing s q k (stepsBy which s p) filled picks lows marks work
-  pub reached : Reached s (stepsBy which s p) reach
+  pub reached : VisitedUpTo s (stepsBy which s p) reach
   pub not-last : p < s .n
 
 -- One row or round more
 pub record Stepped (which p : ℕ) (s : Poses) (q : Query) (k filled : ℕ) (picks lows marks : List ℕ) (t : Turn) (picks′ lows′ marks′ : List ℕ) : Type 0
   where
     pub goes : Goes s q k (stepsBy which s p) (stepsBy which s (p + 1)) filled picks lows marks (t .filled) picks′ lows′ marks′
-    pub reached : Reached s (stepsBy which s (p + 1)) (t .best)
+    pub reached : VisitedUpTo s (stepsBy which s (p + 1)) (t .best)
     pub counted : made (kindBy which) (stepsBy which s (p + 1)) ≡ made (kindBy which) (stepsBy which s p) + t .found
     pub few : t .found ≤ s .m
 
 -- What the threshold's positions are
-pub record Placed (which p m n : ℕ) (marks reach : List ℕ) : Type 0 where
+pub record Positioned (which p m n : ℕ) (marks reach : List ℕ) : Type 0 where
   pub place : (i : ℕ) → i < m → getD reach i 0 ≡ cond (eqb which 0) p (walkedTo i n marks)
 
 -- Rows, lists and lookups are few
@@ -90,7 +90,7 @@ pub record Running (s : Poses) (q : Query) (k : ℕ) (picks lows marks work : Li
   pub tally-long : s .m * s .n ≤ length marks
 
 -- The row at which the search stops, its accesses by kind, and over what was lent the first k items, their scores and the tally
-pub record Ran (which : ℕ) (s : Poses) (q : Query) (k : ℕ) (picks₀ lows₀ tally₀ : List ℕ) (d : Done) (picks lows marks : List ℕ) : Type 0 where
+pub record RanBy (which : ℕ) (s : Poses) (q : Query) (k : ℕ) (picks₀ lows₀ tally₀ : List ℕ) (d : Done) (picks lows marks : List ℕ) : Type 0 where
   pub rows-are : d .rows ≡ rows s k (searchBy which s q)
   pub sorted-are : d .sorted .0 ≡ made sorted (stepsBy which s (d .rows))
   pub direct-are : d .direct .0 ≡ made direct (stepsBy which s (d .rows))

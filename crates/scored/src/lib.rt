@@ -13,7 +13,7 @@ use tallying::clear;
 ghost use Rattle.lists.specs.Contracts.{poses};
 ghost use Rattle.meeting.specs.Contracts.{queryWith};
 ghost use Rattle.noting.specs.Contracts.{Advancing};
-ghost use Rattle.scored.specs.Run.{Stepping, Stepped, Counting, Counted, Placed, Running, Ran};
+ghost use Rattle.scored.specs.Run.{Stepping, Stepped, Counting, Counted, Positioned, Running, RanBy};
 
 // The numbers by which a search of this crate is called.
 pub const TA: u8 = 0;
@@ -89,7 +89,7 @@ fn step(
 // position for BPA and BPA2.
 fn places(which: u8, p: usize, m: usize, n: usize, best: [usize; 8], tally: &[u8]) -> [usize; 8]
     requires { ⌜ Advancing m n best (now tally) ⌝ }
-    ensures { λ r. ⌜ Placed which p m n (now (tally .entry)) r ⌝ }
+    ensures { λ r. ⌜ Positioned which p m n (now (tally .entry)) r ⌝ }
 {
     if which == TA {
         return [p; 8];
@@ -137,7 +137,7 @@ pub fn run(
 ) -> Done
     requires { ⌜ Running (poses m n (now items) (now scores)) (queryWith rule weights) k (now picks)
         (now lows) (now tally) (now work) ⌝ }
-    ensures { λ r. ⌜ Ran which (poses m n (now (items .entry)) (now (scores .entry))) (queryWith rule weights)
+    ensures { λ r. ⌜ RanBy which (poses m n (now (items .entry)) (now (scores .entry))) (queryWith rule weights)
         k (now (picks .entry)) (now (lows .entry)) (now (tally .entry)) r (now (picks .exit))
         (now (lows .exit)) (now (tally .exit)) ⌝ }
 {

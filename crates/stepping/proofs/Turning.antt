@@ -24,7 +24,7 @@ use Rattle.laws.specs.Looked.{looked-whole}
 use Rattle.laws.specs.Lookups.{once, made-append, lookup-made-own}
 use Rattle.laws.specs.Visits.{best-free, best-wider}
 use Rattle.laws.specs.Rounds.{Turns, by-turn, visited-next, round-turns, rounds-turns, unvisited-item}
-use Rattle.stepping.specs.State.{Goes, Reached}
+use Rattle.stepping.specs.State.{Goes, VisitedUpTo}
 use Rattle.stepping.specs.Steps.{goes-none, goes-on}
 
 module _ (s : Poses) (tr : List Access) (i : ℕ) where
@@ -50,11 +50,11 @@ module _ (s : Poses) (tr : List Access) (i : ℕ) where
 pub record RoundPart (s : Poses) (q : Query) (k r i filled : ℕ) (picks₀ lows₀ marks₀ : List ℕ) (kept : ℕ) (picks lows marks reach : List ℕ)
     (found : ℕ) : Type 0 where
   pub goes : Goes s q k (rounds s r) (round s (rounds s r) i) filled picks₀ lows₀ marks₀ kept picks lows marks
-  pub reached : Reached s (round s (rounds s r) i) reach
+  pub reached : VisitedUpTo s (round s (rounds s r) i) reach
   pub counted : made direct (round s (rounds s r) i) ≡ made direct (rounds s r) + found
 
 pub part-none : {s : Poses} {q : Query} {k r filled : ℕ} {picks lows marks reach : List ℕ}
-    → Reached s (rounds s r) reach → RoundPart s q k r 0 filled picks lows marks filled picks lows marks reach 0
+    → VisitedUpTo s (rounds s r) reach → RoundPart s q k r 0 filled picks lows marks filled picks lows marks reach 0
 unfolding round
 part-none {s} {r = r} reached = record { goes = goes-none (rounds s r); reached = reached; counted = omega arith }
 

@@ -5,7 +5,7 @@
 --     Meeting, Met       what meeting an item asks and promises
 --     Standing           the state after some accesses, over the slices themselves, with all that may be read
 --     Looking, Turned    what a turn of BPA2 at a list asks and promises
---     Reached            positions up to which each list was visited
+--     VisitedUpTo        positions up to which each list was visited
 --     Rounding, Rounded  what a round of BPA2 asks and promises
 -- Assumes nothing.
 use mathlib.Core.Path.{_≡_}
@@ -78,22 +78,22 @@ pub record Turned (i b : ℕ) (s : Poses) (q : Query) (k filled : ℕ) (picks lo
       → Goes s q k tr (next s tr i) filled picks lows marks filled′ picks′ lows′ marks′
 
 -- Each list was visited up to the position that stands for it
-abbrev pub Reached : Poses → List Access → List ℕ → Type 0
-Reached s tr reach = (i : ℕ) → i < s .m → getD reach i 0 ≤ best s tr i
+abbrev pub VisitedUpTo : Poses → List Access → List ℕ → Type 0
+VisitedUpTo s tr reach = (i : ℕ) → i < s .m → getD reach i 0 ≤ best s tr i
 
 -- After some number of rounds
 pub record Rounding (s : Poses) (q : Query) (k filled : ℕ) (reach picks lows marks work : List ℕ) : Type 0 where
   pub done : ℕ
   pub standing : Standing s q k (rounds s done) filled picks lows marks work
-  pub reached : Reached s (rounds s done) reach
+  pub reached : VisitedUpTo s (rounds s done) reach
 
 -- After however many rounds the slices stand: one round more
 pub record Rounded (s : Poses) (q : Query) (k filled : ℕ) (reach picks lows marks work : List ℕ) (t : Turn) (picks′ lows′ marks′ : List ℕ) : Type 0
   where
-    pub goes : (r : ℕ) → Standing s q k (rounds s r) filled picks lows marks work → Reached s (rounds s r) reach
+    pub goes : (r : ℕ) → Standing s q k (rounds s r) filled picks lows marks work → VisitedUpTo s (rounds s r) reach
         → Goes s q k (rounds s r) (rounds s (r + 1)) filled picks lows marks (t .filled) picks′ lows′ marks′
-    pub reached : (r : ℕ) → Standing s q k (rounds s r) filled picks lows marks work → Reached s (rounds s r) reach
-        → Reached s (rounds s (r + 1)) (t .best)
-    pub counted : (r : ℕ) → Standing s q k (rounds s r) filled picks lows marks work → Reached s (rounds s r) reach
+    pub reached : (r : ℕ) → Standing s q k (rounds s r) filled picks lows marks work → VisitedUpTo s (rounds s r) reach
+        → VisitedUpTo s (rounds s (r + 1)) (t .best)
+    pub counted : (r : ℕ) → Standing s q k (rounds s r) filled picks lows marks work → VisitedUpTo s (rounds s r) reach
         → made direct (rounds s (r + 1)) ≡ made direct (rounds s r) + t .found
     pub few : t .found ≤ s .m

@@ -1,5 +1,5 @@
 -- `bounded::rank` meets its contract. The loop's invariant: the three slices hold the first k of the items passed that reach the
--- bar (`Passed`), and have their lengths; the measure is how many items are left. At the loop's end these are the first k of all met
+-- bar (`FrontIn`), and have their lengths; the measure is how many items are left. At the loop's end these are the first k of all met
 -- items (`listed-all`).
 -- Assumes nothing.
 use mathlib.Core.Path.{_≡_, refl, _∙_}
@@ -7,7 +7,7 @@ use Prim.Native.Nat.{_-_, _≤_}
 use native.Mathlib.Omega.{arith}
 use lib.ListN.{length}
 use Rattle.halting.specs.Contracts.{view}
-use Rattle.bounded.specs.Contracts.{Passed}
+use Rattle.bounded.specs.Contracts.{FrontIn}
 use Rattle.bounded.proofs.Items.{passed-none, passed-most, listed-all}
 use Rattle.bounded.proofs.rank.Statement.{statement}
 use Rattle.bounded.proofs.rank.Tie as tie
@@ -15,7 +15,7 @@ use Rattle.bounded.proofs.rank.Tie as tie
 abbrev Inv-loop : tie.InvT-loop
 Inv-loop p k top m n rule scores work marks picks₀ lows₀ highs₀ weights filled₀ d₀ picks lows highs filled d =
     (d ≤ n) × (length picks ≡ length picks₀) × (length lows ≡ length lows₀) × (length highs ≡ length highs₀)
-    × Passed (view m n rule weights scores work) k p (top - 1) d picks₀ lows₀ highs₀ filled picks lows highs
+    × FrontIn (view m n rule weights scores work) k p (top - 1) d picks₀ lows₀ highs₀ filled picks lows highs
 
 abbrev μ-loop : tie.MeasureT-loop
 μ-loop p k top m n rule scores work marks picks₀ lows₀ highs₀ weights filled₀ d₀ picks lows highs filled d = n - d

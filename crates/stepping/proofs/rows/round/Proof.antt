@@ -15,7 +15,7 @@ use Rattle.laws.specs.Tests.{by-cases}
 use Rattle.laws.specs.Visits.{best-most}
 use Rattle.lists.specs.Contracts.{poses}
 use Rattle.meeting.specs.Contracts.{queryWith}
-use Rattle.stepping.specs.State.{State, Standing, Reached}
+use Rattle.stepping.specs.State.{State, Standing, VisitedUpTo}
 use Rattle.stepping.specs.Steps.{state-now, meeting-of}
 use Rattle.stepping.proofs.Turning.{RoundPart, part-none, part-more, part-whole, part-count}
 use Rattle.stepping.specs.Best.{walked-best, walkable-of}
@@ -26,7 +26,7 @@ abbrev Inv-loop : tie.InvT-loop
 Inv-loop m n rule weights k filled items scores picks₀ lows₀ tally₀ work kept₀ found₀ next₀ i₀ picks lows tally kept found next i =
     (i ≤ m) × (found ≤ i) × (length next ≡ 8)
     × ((r : ℕ) → Standing (poses m n items scores) (queryWith rule weights) k (rounds (poses m n items scores) r) filled picks₀ lows₀ tally₀ work
-    → Reached (poses m n items scores) (rounds (poses m n items scores) r) next₀
+    → VisitedUpTo (poses m n items scores) (rounds (poses m n items scores) r) next₀
     → RoundPart (poses m n items scores) (queryWith rule weights) k r i filled picks₀ lows₀ tally₀ kept picks lows tally next found)
 
 abbrev μ-loop : tie.MeasureT-loop
@@ -123,7 +123,7 @@ best-of : (c : tie.After-walk-on Inv-loop μ-loop) (r : ℕ)
     ((c .before .before .before .before .before .before .before .before .before .before) .args .lows .now)
     ((c .before .before .before .before .before .before .before .before .before .before) .args .tally .now)
     ((c .before .before .before .before .before .before .before .before .before .before) .args .work .now)
-    → Reached (lent (c .before .before .before .before .before .before .before .before .before .before))
+    → VisitedUpTo (lent (c .before .before .before .before .before .before .before .before .before .before))
     (rounds (lent (c .before .before .before .before .before .before .before .before .before .before)) r)
     ((c .before .before .before .before .before .before .before .before .before .before) .args .best)
     → c .walk-on .result ≡ best (lent (c .before .before .before .before .before .before .before .before .before .before))
