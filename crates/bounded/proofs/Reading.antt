@@ -35,7 +35,8 @@ use Rattle.halting.specs.Marks.{halts-few}
 use Rattle.leading.specs.Contracts.{Leading}
 use Rattle.leading.specs.Floor.{led-few}
 use Rattle.ending.specs.Contracts.{Sought, Halted}
-use Rattle.bounded.specs.Contracts.{heldOf, HeldIn, Finished}
+use Rattle.ranking.specs.Contracts.{heldOf, HeldIn}
+use Rattle.bounded.specs.Contracts.{Finished}
 
 -- ---- equal lows, highs and met items
 module _ (n k : ℕ) (low high low′ high′ : ℕ → ℕ) (met met′ : ℕ → Bool)

@@ -12,11 +12,11 @@ ghost use Rattle.meeting.specs.Contracts.{queryWith, Readable, Room};
 ghost use Rattle.running.specs.Contracts.{OnlySorted, Runs};
 
 // The searches' numbers, in the order of their lines in the previewer.
-pub const TA: u8 = scored::TA;
+pub const TA: u8 = judging::TA;
 
-pub const BPA: u8 = scored::BPA;
+pub const BPA: u8 = judging::BPA;
 
-pub const BPA2: u8 = scored::BPA2;
+pub const BPA2: u8 = judging::BPA2;
 
 pub const NRA: u8 = 3;
 

@@ -32,7 +32,8 @@ use Rattle.meeting.specs.Shortlist.{Keeps}
 use Rattle.noting.specs.Contracts.{Advancing}
 use Rattle.stepping.specs.declared.rows.Turn.{Turn}
 use Rattle.stepping.specs.State.{ranking, State, Standing, VisitedUpTo}
-use Rattle.scored.specs.Run.{stepsBy, reachBy, kindBy, searchBy, Stepped, Positioned, Counted, RanBy}
+use Rattle.judging.specs.Contracts.{Positioned, Counted}
+use Rattle.scored.specs.Run.{stepsBy, reachBy, kindBy, searchBy, Stepped, RanBy}
 use Rattle.laws.specs.Lists.{over-over}
 use Rattle.stepping.specs.Steps.{keeps-now, small-of}
 use Rattle.stepping.specs.Best.{walked-best, walkable-of}

@@ -2,8 +2,6 @@
 --     stepsBy, reachBy, kindBy       the accesses of p rows or rounds; the threshold's positions; the kind of the accesses that find
 --     searchBy                       the search; `search-ta`, `search-bpa`, `search-bpa2` say which it is
 --     Stepping, Stepped              what one row or round asks and promises
---     Positioned                     what the threshold's positions are
---     Counting, Counted              what the counts ask, and what they are
 --     Running, RanBy                 what a run asks and promises
 -- Assumes nothing.
 use mathlib.Core.Path.{_≡_, refl}
@@ -64,24 +62,6 @@ pub record Stepped (which p : ℕ) (s : Poses) (q : Query) (k filled : ℕ) (pic
     pub reached : VisitedUpTo s (stepsBy which s (p + 1)) (t .best)
     pub counted : made (kindBy which) (stepsBy which s (p + 1)) ≡ made (kindBy which) (stepsBy which s p) + t .found
     pub few : t .found ≤ s .m
-
--- What the threshold's positions are
-pub record Positioned (which p m n : ℕ) (marks reach : List ℕ) : Type 0 where
-  pub place : (i : ℕ) → i < m → getD reach i 0 ≡ cond (eqb which 0) p (walkedTo i n marks)
-
--- Rows, lists and lookups are few
-pub record Counting (p m found : ℕ) : Type 0 where
-  pub p-most : p ≤ 1024
-  pub m-least : 1 ≤ m
-  pub m-most : m ≤ 8
-  pub found-most : found ≤ 8192
-
--- Each lookup is one access of the search's own kind and a random one in each other list
-pub record Counted (which p m found : ℕ) (d : Done) : Type 0 where
-  pub rows-are : d .rows ≡ p
-  pub sorted-are : d .sorted .0 ≡ cond (eqb which 2) 0 found
-  pub direct-are : d .direct .0 ≡ cond (eqb which 2) found 0
-  pub random-are : d .random .0 ≡ found * (m - 1)
 
 -- Once the tests are passed, with room for k places and the tally
 pub record Running (s : Poses) (q : Query) (k : ℕ) (picks lows marks work : List ℕ) : Type 0 where

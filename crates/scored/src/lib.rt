@@ -1,26 +1,16 @@
 // The searches that look an item's whole score up: TA, BPA and BPA2. They differ in the positions of a row or round
 // and in those of the threshold, so one loop serves all three.
-mod limits;
-
-use meeting::Direct;
+use judging::BPA2;
+use judging::counts;
+use judging::ends;
+use judging::places;
 use meeting::Done;
-use meeting::Random;
-use meeting::Sorted;
-use noting::visits;
 use stepping::rows;
 use stepping::rows::Turn;
 use tallying::clear;
 ghost use Rattle.lists.specs.Contracts.{poses};
 ghost use Rattle.meeting.specs.Contracts.{queryWith};
-ghost use Rattle.noting.specs.Contracts.{Advancing};
-ghost use Rattle.scored.specs.Run.{Stepping, Stepped, Counting, Counted, Positioned, Running, RanBy};
-
-// The numbers by which a search of this crate is called.
-pub const TA: u8 = 0;
-
-pub const BPA: u8 = 1;
-
-pub const BPA2: u8 = 2;
+ghost use Rattle.scored.specs.Run.{Stepping, Stepped, Running, RanBy};
 
 // Row p of TA and BPA, counted from 0, or a round of BPA2.
 fn step(
@@ -85,40 +75,6 @@ fn step(
     }
 }
 
-// The positions of the threshold after p rows or rounds: position p in every list for TA, and each list's best
-// position for BPA and BPA2.
-fn places(which: u8, p: usize, m: usize, n: usize, best: [usize; 8], tally: &[u8]) -> [usize; 8]
-    requires { ⌜ Advancing m n best (now tally) ⌝ }
-    ensures { λ r. ⌜ Positioned which p m n (now (tally .entry)) r ⌝ }
-{
-    if which == TA {
-        return [p; 8];
-    }
-    visits::advance(m, n, best, tally)
-}
-
-// Each of `found` lookups is one access of the search's own kind and a random one in each other list.
-fn counts(which: u8, p: usize, m: usize, found: u32) -> Done
-    requires { ⌜ Counting p m found ⌝ }
-    ensures { λ r. ⌜ Counted which p m found r ⌝ }
-{
-    let others = (m - 1) as u32;
-    if which == BPA2 {
-        return Done {
-            rows: p as u32,
-            sorted: Sorted(0),
-            direct: Direct(found),
-            random: Random(found * others),
-        };
-    }
-    Done {
-        rows: p as u32,
-        sorted: Sorted(found),
-        direct: Direct(0),
-        random: Random(found * others),
-    }
-}
-
 // The search by its number, once the tests are passed and the work slice holds the positions: the first k items
 // with their scores, and the tally, over what was lent.
 pub fn run(
@@ -169,7 +125,7 @@ pub fn run(
         let reach = t.best;
         p += 1;
         best = places(which, p, m, n, reach, tally);
-        if limits::ends(p, k, filled, rule, weights, m, n, best, scores, lows) {
+        if ends(p, k, filled, rule, weights, m, n, best, scores, lows) {
             return counts(which, p, m, found);
         }
     }

@@ -1,12 +1,12 @@
--- `bounded::consider` meets its contract: an item whose mark reaches the bar is put into its place, any other changes nothing.
+-- `ranking::consider` meets its contract: an item whose mark reaches the bar is put into its place, any other changes nothing.
 -- Assumes nothing.
 use borrow.Author.Needs.{needs}
 use mathlib.Core.Path.{_≡_}
 use native.Mathlib.Omega.{arith}
 use Rattle.halting.specs.Contracts.{boundOf, bound-asks}
-use Rattle.bounded.proofs.Items.{considered-in, considered-out}
-use Rattle.bounded.proofs.consider.Statement.{statement}
-use Rattle.bounded.proofs.consider.Tie as tie
+use Rattle.ranking.proofs.Items.{considered-in, considered-out}
+use Rattle.ranking.proofs.consider.Statement.{statement}
+use Rattle.ranking.proofs.consider.Tie as tie
 
 mul-own : tie.Need-mul-own
 mul-own c = search needs

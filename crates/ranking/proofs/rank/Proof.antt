@@ -1,4 +1,4 @@
--- `bounded::rank` meets its contract. The loop's invariant: the three slices hold the first k of the items passed that reach the
+-- `ranking::rank` meets its contract. The loop's invariant: the three slices hold the first k of the items passed that reach the
 -- bar (`FrontIn`), and have their lengths; the measure is how many items are left. At the loop's end these are the first k of all met
 -- items (`listed-all`).
 -- Assumes nothing.
@@ -7,10 +7,10 @@ use Prim.Native.Nat.{_-_, _≤_}
 use native.Mathlib.Omega.{arith}
 use lib.ListN.{length}
 use Rattle.halting.specs.Contracts.{view}
-use Rattle.bounded.specs.Contracts.{FrontIn}
-use Rattle.bounded.proofs.Items.{passed-none, passed-most, listed-all}
-use Rattle.bounded.proofs.rank.Statement.{statement}
-use Rattle.bounded.proofs.rank.Tie as tie
+use Rattle.ranking.specs.Contracts.{FrontIn}
+use Rattle.ranking.proofs.Items.{passed-none, passed-most, listed-all}
+use Rattle.ranking.proofs.rank.Statement.{statement}
+use Rattle.ranking.proofs.rank.Tie as tie
 
 abbrev Inv-loop : tie.InvT-loop
 Inv-loop p k top m n rule scores work marks picks₀ lows₀ highs₀ weights filled₀ d₀ picks lows highs filled d =

@@ -1,4 +1,4 @@
--- `scored::counts` meets its contract: each lookup is one access of the search's own kind and a random one in each other list.
+-- `judging::counts` meets its contract: each lookup is one access of the search's own kind and a random one in each other list.
 -- Assumes nothing.
 use mathlib.Core.Path.{refl}
 use Prim.Native.Nat.{ℕ, _*_, _≤_}
@@ -7,8 +7,8 @@ use native.Mathlib.Omega.{arith}
 use borrow.Author.Tests.{eq-eqb, ne-eqb}
 use mir.Syntax.{w32}
 use mir.Val.{Fits}
-use Rattle.scored.proofs.counts.Statement.{statement}
-use Rattle.scored.proofs.counts.Tie as tie
+use Rattle.judging.proofs.counts.Statement.{statement}
+use Rattle.judging.proofs.counts.Tie as tie
 
 -- a product of so many lookups and so few lists fits into 32 bits
 random-few : {found others : ℕ} → found ≤ 8192 → others ≤ 8 → Fits w32 (found * others)

@@ -1,9 +1,9 @@
--- `scored::limits::ends` meets its contract: its three ways out are the last row, too few items met, and the comparison.
+-- `judging::ends` meets its contract: its three ways out are the last row, too few items met, and the comparison.
 -- Assumes nothing.
 use native.Mathlib.Omega.{arith}
 use borrow.Author.Tests.{eq-eqb, ne-eqb, le-leb, lt-leb}
-use Rattle.scored.proofs.limits.ends.Statement.{statement}
-use Rattle.scored.proofs.limits.ends.Tie as tie
+use Rattle.judging.proofs.ends.Statement.{statement}
+use Rattle.judging.proofs.ends.Tie as tie
 
 returns : tie.Need-returns
 returns c =

@@ -27,7 +27,7 @@ use Rattle.halting.specs.Marks.{mark-above, reach-is}
 use Rattle.ending.specs.Contracts.{Kth}
 use Rattle.meeting.specs.Shortlist.{Inserted}
 use Rattle.meeting.specs.Keeping.{listing-none}
-use Rattle.bounded.specs.Contracts.{heldOf, reachesOf, frontOf, HeldIn, FrontIn, Considered}
+use Rattle.ranking.specs.Contracts.{heldOf, reachesOf, frontOf, HeldIn, FrontIn, Considered}
 
 module _ (v : View) (k p bar : ℕ) where
   front-none : frontOf v k p bar 0 ≡ []

@@ -1,9 +1,9 @@
--- `bounded::shortlist::keep` meets its contract: seat k leaves everything as it is, any other seat is where the item is slid in.
+-- `ranking::shortlist::keep` meets its contract: seat k leaves everything as it is, any other seat is where the item is slid in.
 -- Assumes nothing.
 use borrow.Author.Needs.{needs}
 use Rattle.meeting.specs.Keeping.{stays-out, slid-in}
-use Rattle.bounded.proofs.shortlist.keep.Statement.{statement}
-use Rattle.bounded.proofs.shortlist.keep.Tie as tie
+use Rattle.ranking.proofs.shortlist.keep.Statement.{statement}
+use Rattle.ranking.proofs.shortlist.keep.Tie as tie
 
 seat-requires : tie.Need-seat-requires
 seat-requires c κs = search needs

@@ -1,10 +1,10 @@
--- `scored::places` meets its contract: TA takes position p of every list, BPA and BPA2 each list's best position.
+-- `judging::places` meets its contract: TA takes position p of every list, BPA and BPA2 each list's best position.
 -- Assumes nothing.
 use native.Mathlib.Omega.{arith}
 use lib.ListN.{getD-replicate}
 use borrow.Author.Tests.{eq-eqb, ne-eqb}
-use Rattle.scored.proofs.places.Statement.{statement}
-use Rattle.scored.proofs.places.Tie as tie
+use Rattle.judging.proofs.places.Statement.{statement}
+use Rattle.judging.proofs.places.Tie as tie
 
 returns : tie.Need-returns
 returns c =

@@ -1,0 +1,3 @@
+-- Laws that the proofs of this crate cite.
+--     Items      the items one after the other
+mod Items
