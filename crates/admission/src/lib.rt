@@ -12,7 +12,7 @@ fn pair(bytes: &[u8], at: usize) -> u32
     requires { ⌜ at + 1 < length (now bytes) ⌝ }
     ensures { λ r. ⌜ r ≡ pairOf (now (bytes .entry)) at ⌝ }
 {
-    records::pair_at(bytes, at) as u32
+    heads::pair_at(bytes, at) as u32
 }
 
 // Test 2: k is 0 or above n.

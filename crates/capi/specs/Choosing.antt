@@ -13,7 +13,7 @@ use Rattle.model.specs.Records.{QueryRead as QueryValue, queryCount, queryHead,
 use Rattle.laws.specs.Verdicts.{by-verdict}
 use Rattle.records.specs.declared.QueryRead.{QueryRead}
 use Rattle.records.specs.Contracts.{QueryIsRead}
-use Rattle.records.specs.Heads.{lists-held}
+use Rattle.records.specs.Held.{lists-held}
 use Rattle.records.specs.Choice.{noPart, housePart, ownPart, weightsOf, chosen-of-refused-query, chosen-of-refused-lists, chosen-house, chosen-own, house-length, own-length}
 use Rattle.capi.specs.Told.{sourceNumber, PartTold}
 

@@ -11,8 +11,8 @@ use Prim.Native.Nat.{ℕ, zero, suc, _+_, _*_, _≤_, _<_}
 use native.Mathlib.Omega.{arith}
 use Rattle.model.specs.Refusals.{Verdict, accepted, Lent, searchVerdict}
 use Rattle.model.specs.Answers.{told}
-use Rattle.text.specs.Contracts.{Appended}
-use Rattle.text.specs.Appending.{appended-none, appended-is, appended-then}
+use Rattle.fields.specs.Contracts.{Appended}
+use Rattle.fields.specs.Appending.{appended-none, appended-is, appended-then}
 use Rattle.lines.specs.declared.Line.{Line}
 use Rattle.lines.specs.Contracts.{lineRoom, oneLine, linesTo, LineMade, Lines}
 use Rattle.lines.specs.Alike.{Alike, alike-verdict, alike-one}

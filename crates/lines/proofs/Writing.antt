@@ -17,8 +17,9 @@ use Rattle.laws.specs.Verdicts.{by-verdict}
 use Rattle.answering.specs.declared.Answer.{Answer}
 use Rattle.answering.specs.Answered.{Searched}
 use Rattle.answering.specs.Promises.{accepted-call}
-use Rattle.text.specs.Contracts.{Appended, placesAt}
-use Rattle.text.specs.Appending.{appended-is}
+use Rattle.fields.specs.Contracts.{Appended}
+use Rattle.fields.specs.Appending.{appended-is}
+use Rattle.listing.specs.Contracts.{placesAt}
 use Rattle.lines.specs.declared.Line.{Line}
 use Rattle.running.specs.Contracts.{searchAt}
 use Rattle.lines.specs.Contracts.{nameAt, lineRoom, AnswerRoom, AnswerWritten, LineMade}

@@ -19,7 +19,7 @@ use Rattle.model.specs.Answers.{Place, told}
 use Rattle.model.specs.Program.{nameTA, nameBPA, nameBPA2, nameNRA, line, refusedLine, searchLine, printing}
 use Rattle.running.specs.Contracts.{searchAt}
 use Rattle.answering.specs.declared.Answer.{Answer}
-use Rattle.text.specs.Contracts.{Appended}
+use Rattle.fields.specs.Contracts.{Appended}
 use Rattle.lines.specs.declared.Line.{Line}
 
 -- the four names, joined

@@ -28,8 +28,8 @@ use Rattle.answering.specs.declared.Answer.{Answer}
 use Rattle.answering.specs.Answered.{Searched}
 use Rattle.admission.specs.Shapes.{accepts, numbered-search}
 use Rattle.answering.specs.Promises.{accepted-is-zero}
-use Rattle.text.specs.Contracts.{placesAt}
-use Rattle.text.specs.Places.{places-are}
+use Rattle.listing.specs.Contracts.{placesAt}
+use Rattle.listing.specs.Places.{places-are}
 use Rattle.text.specs.Lines.{refused-most, line-most}
 use Rattle.running.specs.Contracts.{searchAt}
 use Rattle.lines.specs.Contracts.{nameAt, lineRoom, answerText, lineOr, oneLine, linesTo}

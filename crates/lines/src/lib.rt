@@ -4,7 +4,7 @@ ghost use mathlib.Core.Path.{_≡_};
 ghost use Prim.Native.Nat.{_+_, _*_, _≤_};
 ghost use lib.ListN.{length};
 ghost use Rattle.admission.specs.Contracts.{lentWith};
-ghost use Rattle.text.specs.Contracts.{placesAt};
+ghost use Rattle.listing.specs.Contracts.{placesAt};
 ghost use Rattle.lines.specs.Contracts.{allNames, nameAt, lineRoom, AnswerRoom, AnswerWritten, LineMade, Lines};
 
 // What the searches are asked: the sizes of the lists, the rule, and how many places.

@@ -8,7 +8,7 @@ use native.Mathlib.Omega.{arith}
 use lib.ListN.{length, drop}
 use Rattle.model.specs.Words.{over}
 use Rattle.model.specs.Program.{printed}
-use Rattle.text.specs.Contracts.{Appended}
+use Rattle.fields.specs.Contracts.{Appended}
 use Rattle.previewing.specs.Contracts.{Previewed}
 
 pub previewed : {text bytes before after : List ℕ} {end : ℕ} → text ≡ printed bytes

@@ -28,7 +28,8 @@ use Rattle.laws.specs.Accepted.{size-fits}
 use Rattle.records.specs.declared.QueryRead.{QueryRead}
 use Rattle.records.specs.declared.ListsRead.{ListsRead}
 use Rattle.records.specs.Contracts.{valueOfQuery, QueryIsRead, valueOfLists, ListsAreRead}
-use Rattle.records.specs.Heads.{lists-held, query-from-11, query-from-12, query-from-13, querySays, lists-from-11, lists-from-12, lists-from-1, lists-from-13, listsSays}
+use Rattle.records.specs.Held.{lists-held}
+use Rattle.heads.specs.Heads.{query-from-11, query-from-12, query-from-13, querySays, lists-from-11, lists-from-12, lists-from-1, lists-from-13, listsSays}
 use Rattle.records.specs.Settled.{query-zero, lists-zero}
 use Rattle.admission.specs.Contracts.{lentWith}
 use Rattle.admission.specs.Shapes.{Flat}

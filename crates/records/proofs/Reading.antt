@@ -5,24 +5,22 @@
 --     items-short, scores-short      that are refused by 6
 --     lists-taken                    that are read
 -- Assumes nothing.
-use mathlib.Core.Path.{_≡_, sym, ap, _∙_}
-use mathlib.Core.List.{List, _++_}
-use Prim.Native.Nat.{ℕ, suc, _+_, _*_, _≤_, _<_}
-use native.Mathlib.Numerals.{add-one}
+use mathlib.Core.Path.{_≡_, ap, _∙_}
+use mathlib.Core.List.{List}
+use Prim.Native.Nat.{ℕ, _+_, _*_, _≤_, _<_}
 use native.Mathlib.Omega.{arith}
-use lib.ListN.{length, getD, set, drop, length-append}
-use lib.Seq.{drop-cons, append-snoc, set-at}
+use lib.ListN.{length}
 use borrow.Author.Tests.{lt-ltb, le-ltb}
 use Rattle.model.specs.Words.{row, over}
 use Rattle.model.specs.Refusals.{accepted, refused, pair, short}
 use Rattle.model.specs.Answers.{told, written}
 use Rattle.model.specs.Records.{byte, queryRule, queryK, queryCount, queryHead, queryAnswer, readQuery, listsM, listsN, entryItem, entryScore, listsHead, listsVerdict, listsAnswer, readLists, itemsAfter, scoresAfter}
-use Rattle.laws.specs.Lists.{row-length}
 use Rattle.laws.specs.Accepted.{size-fits}
+use Rattle.filling.specs.Contracts.{everyFourth}
 use Rattle.records.specs.declared.QueryRead.{QueryRead}
 use Rattle.records.specs.declared.ListsRead.{ListsRead}
-use Rattle.records.specs.Contracts.{valueOfQuery, queryRefusal, QueryIsRead, valueOfLists, listsRefusal, ListsAreRead, everyFourth}
-use Rattle.records.specs.Heads.{refused-by, lists-held}
+use Rattle.records.specs.Contracts.{valueOfQuery, queryRefusal, QueryIsRead, valueOfLists, listsRefusal, ListsAreRead}
+use Rattle.records.specs.Held.{refused-by, lists-held}
 
 -- ---- a query
 module _ (b : List ℕ) where

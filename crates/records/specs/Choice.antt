@@ -15,7 +15,7 @@ use lib.Seq.{length-take-le}
 use borrow.Author.Tests.{eq-eqb, ne-eqb}
 use Rattle.model.specs.Refusals.{accepted, refused, wrongWeights}
 use Rattle.model.specs.Records.{queryCount, queryHead, listsM, listsHead, Part, theQuery, theLists, chosenPart, choosing, chosen, recordOf, partOf}
-use Rattle.records.specs.Heads.{query-held, lists-held}
+use Rattle.records.specs.Held.{query-held, lists-held}
 
 abbrev pub noPart : Part
 noPart = record { source = theQuery; start = 0; size = 0 }

@@ -4,15 +4,11 @@
 --     QueryIsRead                        what `read_query` promises: the answer
 --     ListsAreRead                       what `read_lists` promises: the answer, and both slices as it leaves them
 --     lentOf, startOf, WeightsChosen     what `chosen_weights` promises: what the part holds, and where it stands
---     everyFourth, Filling, Filled       one half of the entries; what `fill` asks and promises
 -- Assumes nothing.
 use mathlib.Core.Path.{_≡_}
 use mathlib.Core.List.{List}
-use Prim.Native.Nat.{ℕ, _+_, _*_, _≤_}
-use lib.ListN.{length}
+use Prim.Native.Nat.{ℕ, _+_}
 use denote.Ref.{RefT, now}
-use Rattle.model.specs.Words.{row, over}
-use Rattle.model.specs.Refusals.{pair}
 use Rattle.model.specs.Records.{QueryRead as QueryValue, readQuery, ListsRead as ListsValue, readLists, itemsAfter, scoresAfter, Part, Record, theQuery, theLists, chosen, partOf}
 use Rattle.records.specs.declared.QueryRead.{QueryRead}
 use Rattle.records.specs.declared.ListsRead.{ListsRead}
@@ -58,16 +54,3 @@ startOf part query lists =
 pub record WeightsChosen (query lists r : RefT (List ℕ)) : Type 0 where
   pub holds : now r ≡ partOf (chosen (now query) (now lists)) (now query) (now lists)
   pub stands : r .ptr ≡ startOf (chosen (now query) (now lists)) query lists
-
--- entry j's pair, where the first entry's is at an offset: an entry has four bytes
-abbrev pub everyFourth : List ℕ → ℕ → ℕ → ℕ
-everyFourth bytes from j = pair bytes (from + 4 * j)
-
--- `size` such pairs lie within the bytes, and there is a place for each
-pub record Filling (bytes : List ℕ) (from size : ℕ) (slice : List ℕ) : Type 0 where
-  pub pairs-in : from + 4 * size ≤ length bytes + 2
-  pub room : size ≤ length slice
-
--- the first `size` places hold them, and places beyond stay as lent
-abbrev pub Filled : List ℕ → ℕ → ℕ → List ℕ → List ℕ → Type 0
-Filled bytes from size lent after = after ≡ over (row (everyFourth bytes from) size) lent

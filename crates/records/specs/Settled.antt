@@ -22,7 +22,7 @@ use Rattle.laws.specs.Accepted.{Sized, long}
 use Rattle.records.specs.declared.QueryRead.{QueryRead}
 use Rattle.records.specs.declared.ListsRead.{ListsRead}
 use Rattle.records.specs.Contracts.{valueOfQuery, QueryIsRead, valueOfLists, ListsAreRead, WeightsChosen}
-use Rattle.records.specs.Heads.{numbered-query, query-held, numbered-lists, lists-held}
+use Rattle.records.specs.Held.{numbered-query, query-held, numbered-lists, lists-held}
 
 -- ---- a query
 pub query-one-to-one : (r t : QueryRead) → valueOfQuery r ≡ valueOfQuery t → r ≡ t

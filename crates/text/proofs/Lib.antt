@@ -1,3 +1,3 @@
 -- Laws that the proofs of this crate cite.
---     Copying    bytes copied one by one
-mod Copying
+--     Spacing    a space and a number more
+mod Spacing

@@ -1,4 +1,5 @@
 -- How long a line is at most, for a caller who writes one after the other.
+--     spaced-wide        a space and a number of 32 bits: 11 bytes
 --     refused-most       the line of a refusal: 41 bytes
 --     line-most          the line of a search: its name, 45 bytes, and 28 for each place
 -- Assumes nothing.
@@ -7,10 +8,15 @@ use Prim.Native.Nat.{ℕ, _+_, _*_, _^_, _≤_, _<_}
 use native.Mathlib.Omega.{arith}
 use lib.ListN.{length, getD, length-append}
 use Rattle.model.specs.Answers.{Place}
-use Rattle.model.specs.Program.{placesText, line, refusedLine}
-use Rattle.text.specs.Contracts.{placesAt}
-use Rattle.text.specs.Numbers.{spaced-wide}
-use Rattle.text.specs.Places.{places-most}
+use Rattle.model.specs.Program.{spaced, placesText, line, refusedLine}
+use Rattle.fields.specs.Numbers.{decimal-wide}
+use Rattle.listing.specs.Contracts.{placesAt}
+use Rattle.listing.specs.Places.{places-most}
+
+-- a space, then at most ten digits
+pub spaced-wide : (x : ℕ) → x < 2 ^ 32 → length (spaced x) ≤ 11
+unfolding spaced
+spaced-wide x h = omega (arith, decimal-wide x h)
 
 pub refused-most : (number i p : ℕ) → number < 2 ^ 32 → i < 2 ^ 32 → p < 2 ^ 32 → length (refusedLine number i p) ≤ 41
 unfolding refusedLine

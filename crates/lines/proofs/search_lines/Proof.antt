@@ -7,7 +7,7 @@ use Prim.Native.Nat.{_-_}
 use native.Mathlib.Omega.{arith}
 use borrow.Author.Needs.{needs}
 use Rattle.admission.specs.Contracts.{lentWith}
-use Rattle.text.specs.Appending.{appended-length}
+use Rattle.fields.specs.Appending.{appended-length}
 use Rattle.lines.specs.Alike.{Alike, alike-itself, alike-kept}
 use Rattle.lines.proofs.Turns.{SoFar, so-far-none, so-far-next, so-far-refused, so-far-all}
 use Rattle.lines.proofs.search_lines.Statement.{statement}

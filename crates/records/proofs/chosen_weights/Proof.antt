@@ -8,7 +8,7 @@ use Rattle.model.specs.Records.{queryHead, listsHead}
 use Rattle.model.specs.Refusals.{accepted}
 use Rattle.records.specs.Choice.{noPart, housePart, ownPart, chosen-of-refused-query, chosen-of-refused-lists, chosen-house, chosen-own}
 use Rattle.records.specs.Contracts.{lentOf}
-use Rattle.records.specs.Heads.{refused-by, query-accepted, query-held, lists-accepted, lists-held}
+use Rattle.records.specs.Held.{refused-by, query-accepted, query-held, lists-accepted, lists-held}
 use Rattle.records.proofs.Choosing.{part-chosen}
 use Rattle.records.proofs.chosen_weights.Statement.{statement}
 use Rattle.records.proofs.chosen_weights.Tie as tie

@@ -6,7 +6,7 @@ use native.Mathlib.Omega.{arith}
 use borrow.Author.Needs.{needs}
 use Rattle.model.specs.Records.{listsHead}
 use Rattle.model.specs.Refusals.{accepted}
-use Rattle.records.specs.Heads.{lists-accepted, lists-held}
+use Rattle.records.specs.Held.{lists-accepted, lists-held}
 use Rattle.records.proofs.Reading.{Sizes, sizes-read, lists-refused, items-short, scores-short, lists-taken}
 use Rattle.records.proofs.read_lists.Statement.{statement}
 use Rattle.records.proofs.read_lists.Tie as tie

@@ -5,7 +5,7 @@ use mathlib.Core.Path.{_≡_}
 use native.Mathlib.Omega.{arith}
 use Rattle.model.specs.Records.{queryHead}
 use Rattle.model.specs.Refusals.{accepted}
-use Rattle.records.specs.Heads.{query-accepted, query-held}
+use Rattle.records.specs.Held.{query-accepted, query-held}
 use Rattle.records.proofs.Reading.{query-refused, query-taken}
 use Rattle.records.proofs.read_query.Statement.{statement}
 use Rattle.records.proofs.read_query.Tie as tie

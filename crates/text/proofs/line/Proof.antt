@@ -6,10 +6,12 @@ use Prim.Native.Nat.{ℕ, _+_, _*_, _≤_}
 use native.Mathlib.Omega.{arith}
 use lib.ListN.{length}
 use Rattle.model.specs.Program.{spaced, placesText, newline, line}
-use Rattle.text.specs.Contracts.{Appended, placesAt}
-use Rattle.text.specs.Appending.{appended-then, appended-length}
-use Rattle.text.specs.Places.{places-most}
-use Rattle.text.specs.Reaching.{Reached, reached-none, reached-then, reached-spaced}
+use Rattle.fields.specs.Contracts.{Appended}
+use Rattle.fields.specs.Appending.{appended-then, appended-length}
+use Rattle.listing.specs.Contracts.{placesAt}
+use Rattle.listing.specs.Places.{places-most}
+use Rattle.listing.specs.Reaching.{Reached, reached-none, reached-then}
+use Rattle.text.proofs.Spacing.{reached-spaced}
 use Rattle.text.proofs.line.Statement.{statement}
 use Rattle.text.proofs.line.Tie as tie
 

@@ -6,8 +6,9 @@ use Prim.Native.Nat.{ℕ}
 use native.Mathlib.Omega.{arith}
 use borrow.Author.Needs.{needs}
 use Rattle.model.specs.Program.{spaced, refusedWord, refusedLine}
-use Rattle.text.specs.Appending.{appended-then}
-use Rattle.text.specs.Reaching.{Reached, reached-none, reached-then, reached-spaced}
+use Rattle.fields.specs.Appending.{appended-then}
+use Rattle.listing.specs.Reaching.{Reached, reached-none, reached-then}
+use Rattle.text.proofs.Spacing.{reached-spaced}
 use Rattle.text.proofs.refused_line.Statement.{statement}
 use Rattle.text.proofs.refused_line.Tie as tie
 

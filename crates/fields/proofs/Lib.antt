@@ -1,0 +1,3 @@
+-- Laws that the proofs of this crate cite.
+--     Copying    bytes copied one by one
+mod Copying
