@@ -1,68 +1,12 @@
 // The library under C names. A slice is a pointer and then its number of elements, an array a
 // pointer. Each function is thin over a proved one and tells the same numbers: what that one answers
 // stands in the array that C lends.
-use searches::Answer;
+use telling::searched;
 ghost use Rattle.model.specs.Searches.{TA, BPA, BPA2, NRA};
 ghost use Rattle.lists.specs.Contracts.{poses};
-ghost use Rattle.running.specs.Contracts.{searchAt};
 ghost use Rattle.admission.specs.Contracts.{lentWith};
-ghost use Rattle.capi.specs.Told.{AnswerTold, SearchTold, CheckTold, QueryTold, ListsTold, PartTold};
-
-// The seven numbers of a search's answer, in the order of the header; returns the first.
-fn tell(a: Answer, told: &mut [u32; 7]) -> u32
-    ensures { λ r. ⌜ AnswerTold a r (now (told .exit)) ⌝ }
-{
-    *told = [
-        a.number,
-        a.list,
-        a.position,
-        a.rows,
-        a.sorted.0,
-        a.direct.0,
-        a.random.0,
-    ];
-    a.number
-}
-
-// The search of a number, and its answer told.
-fn searched(
-    which: u8,
-    m: usize,
-    n: usize,
-    items: &[u16],
-    scores: &[u16],
-    rule: u8,
-    k: usize,
-    weights: &[u8],
-    picks: &mut [u16],
-    lows: &mut [u32],
-    highs: &mut [u32],
-    tally: &mut [u8],
-    work: &mut [u16],
-    told: &mut [u32; 7],
-) -> u32
-    ensures { λ r. ⌜ SearchTold (searchAt which) (lentWith m n rule k (now (weights .entry))
-        (now (items .entry)) (now (scores .entry)) (now (picks .entry)) (now (lows .entry))
-        (now (highs .entry)) (now (tally .entry)) (now (work .entry))) r (now (told .exit))
-        (now (picks .exit)) (now (lows .exit)) (now (highs .exit)) (now (tally .exit)) (now (work .exit)) ⌝ }
-{
-    let answer = searches::search(
-        which,
-        m,
-        n,
-        items,
-        scores,
-        rule,
-        k,
-        weights,
-        picks,
-        lows,
-        highs,
-        tally,
-        work,
-    );
-    tell(answer, told)
-}
+ghost use Rattle.telling.specs.Told.{SearchTold};
+ghost use Rattle.capi.specs.Told.{CheckTold, QueryTold, ListsTold, PartTold};
 
 // The threshold algorithm.
 #[no_mangle]

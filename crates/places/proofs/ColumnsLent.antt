@@ -28,10 +28,10 @@ use denote.Plain.{uint-lawful, uint-makes, uint-vals, uint-tells}
 use denote.Builtin.{u16, u32}
 use denote.Ref.{RefT, ShrRef, name, now}
 use denote.Struct.Laws as LL
-use Rattle.places.specs.declared.Kept.{Kept}
+use Rattle.columns.specs.declared.Kept.{Kept}
 use Rattle.places.proofs.Lent.{array-lends, array-back}
-use Rattle.places.proofs.Kept as D
-use Rattle.places.proofs.Kept.Laws as D′
+use Rattle.columns.proofs.Kept as D
+use Rattle.columns.proofs.Kept.Laws as D′
 
 -- a field that is an array goes into the machine entry by entry
 abbrev pub into : List ℕ → List ℕ

@@ -46,10 +46,10 @@ use Rattle.running.specs.Contracts.{searchAt}
 use Rattle.answering.specs.declared.Answer.{Answer}
 use Rattle.answering.proofs.Answer as Ans
 use Rattle.answering.proofs.Answer.Laws as Ans′
-use Rattle.places.specs.declared.Place.{Place}
-use Rattle.places.specs.Contracts.{lentRows, SearchedRows}
-use Rattle.places.proofs.Place as P
-use Rattle.places.proofs.Place.Laws as P′
+use Rattle.placing.specs.declared.Place.{Place}
+use Rattle.columns.specs.Contracts.{lentRows, SearchedRows}
+use Rattle.placing.proofs.Place as P
+use Rattle.placing.proofs.Place.Laws as P′
 use Rattle.places.proofs.search_rows as search-rows
 use Rattle.places.proofs.search_rows.Symbol.{name as #places·search-rows}
 use Rattle.places.proofs.ta_rows as ta-rows

@@ -16,9 +16,9 @@ use Rattle.model.specs.Answers.{Found, found, searchOf, answer, answering, writ
 use Rattle.answering.specs.declared.Answer.{Answer}
 use Rattle.answering.specs.Answered.{Searched}
 use Rattle.answering.specs.Promises.{answer-one-to-one}
-use Rattle.places.specs.declared.Place.{Place}
-use Rattle.places.specs.Rows.{onto}
-use Rattle.places.specs.Contracts.{rowOf, lentRows, SearchedRows}
+use Rattle.placing.specs.declared.Place.{Place}
+use Rattle.placing.specs.Rows.{onto}
+use Rattle.columns.specs.Contracts.{rowOf, lentRows, SearchedRows}
 
 -- The results of two calls
 pub record SameRows (a b : Answer) (rows : List Place) (tally work : List ℕ) (rows′ : List Place) (tally′ work′ : List ℕ) : Type 0 where

@@ -9,7 +9,7 @@ use mathlib.Core.Bool.{cond}
 use mathlib.Core.List.{List, map}
 use Prim.Native.Nat.{ℕ, _+_, _-_, _*_, _≤_, _<_}
 use lib.Dec.{eqb}
-use lib.ListN.{length, getD}
+use lib.ListN.{length}
 use Rattle.model.specs.Words.{over}
 use Rattle.model.specs.Given.{Poses, Query, total}
 use Rattle.model.specs.Accesses.{Kind, sorted, direct, random, Access, rowsTA, rounds, best, made, tally}
@@ -17,7 +17,6 @@ use Rattle.model.specs.Searches.{Search, kept, rows, threshold, byScore, TA, BP
 use Rattle.meeting.specs.Contracts.{Readable}
 use Rattle.meeting.specs.declared.Done.{Done}
 use Rattle.meeting.specs.Shortlist.{Keeps}
-use Rattle.noting.specs.Contracts.{walkedTo}
 use Rattle.stepping.specs.declared.rows.Turn.{Turn}
 use Rattle.stepping.specs.State.{Goes, Standing, VisitedUpTo}
 

@@ -1,7 +1,6 @@
 // The previewer's program, from the bytes on its standard input to the text that it prints.
 ghost use Prim.Native.Nat.{_≤_};
-use crate::input;
-use crate::print;
+use case_fields::input;
 
 // How many of the bytes it takes: at most 33,312.
 fn taken(length: usize) -> usize
@@ -31,7 +30,7 @@ fn show(bytes: &[u8]) {
         &mut work,
         &mut out,
     );
-    print::text(&out[0..end]);
+    case_lines::text(&out[0..end]);
 }
 
 // Whether the case was whole.
@@ -42,7 +41,7 @@ pub fn run(number: u32) -> bool {
         return false;
     }
     let end = taken(told.count);
-    print::case(number);
+    case_lines::case(number);
     show(&bytes[0..end]);
     true
 }

@@ -45,22 +45,22 @@ use Rattle.model.specs.Words.{row}
 use Rattle.running.specs.Contracts.{searchAt}
 use Rattle.answering.proofs.Answer as Ans
 use Rattle.answering.proofs.Answer.Laws as Ans′
-use Rattle.places.specs.declared.Place.{Place}
-use Rattle.places.specs.declared.Kept.{Kept}
-use Rattle.places.specs.Rows.{placeAt, onto}
-use Rattle.places.specs.Contracts.{lentRows, SearchedRows, Columned}
+use Rattle.placing.specs.declared.Place.{Place}
+use Rattle.columns.specs.declared.Kept.{Kept}
+use Rattle.placing.specs.Rows.{placeAt, onto}
+use Rattle.columns.specs.Contracts.{lentRows, SearchedRows, Columned}
 use Rattle.places.proofs.ColumnsLent.{into, into-same, Names, lentAt, Lended, Lenders, picks-typed, lows-typed, highs-typed, columns-lent, columns-back}
-use Rattle.places.proofs.Place as P
-use Rattle.places.proofs.Kept as D
-use Rattle.places.proofs.Kept.Laws as D′
-use Rattle.places.proofs.search_columns as columns
-use Rattle.places.proofs.search_columns.Symbol as columns-def
-use Rattle.places.proofs.search_columns.Symbol.{name as #places·search-columns}
-use Rattle.places.proofs.search_columns.Met as columns-thm
-use Rattle.places.proofs.fill as fill
-use Rattle.places.proofs.fill.Symbol as fill-def
-use Rattle.places.proofs.fill.Symbol.{name as #places·fill}
-use Rattle.places.proofs.fill.Met as fill-thm
+use Rattle.placing.proofs.Place as P
+use Rattle.columns.proofs.Kept as D
+use Rattle.columns.proofs.Kept.Laws as D′
+use Rattle.columns.proofs.search_columns as columns
+use Rattle.columns.proofs.search_columns.Symbol as columns-def
+use Rattle.columns.proofs.search_columns.Symbol.{name as #columns·search-columns}
+use Rattle.columns.proofs.search_columns.Met as columns-thm
+use Rattle.placing.proofs.fill as fill
+use Rattle.placing.proofs.fill.Symbol as fill-def
+use Rattle.placing.proofs.fill.Symbol.{name as #placing·fill}
+use Rattle.placing.proofs.fill.Met as fill-thm
 use Rattle.places.proofs.search_rows.Key.{name as #places·search-rows}
 use Rattle.places.proofs.search_rows as search-rows
 use Rattle.places.proofs.search_rows.Statement as stated
@@ -359,8 +359,8 @@ module _ {M : Type 1} (𝓤 : URA M) (H : Heap 𝓤) (A : Atoms 𝓤) (W : Given
           owned ! u8 (Is u8) (uint-makes 𝓤 H A W w8) which _ (refl, which-fits) $ fjoin ! $
           owned ! Ans.the-row (Is Ans.the-row) (LL.makes Ans.the-type Ans′.the-plain 𝓤 H A) (r .answer) _ is $ move ! (1 ∷ 0 ∷ []) $ done !
 
-      module _ (C : Calls 𝓤 H) (Λ : Loops 𝓤 H) (fm : FmC 𝓤 H (W .laws) C) (known-columns : Triple 𝓤 (C #places·search-columns) Columned′)
-          (known-fill : Triple 𝓤 (C #places·fill) Fill′) where
+      module _ (C : Calls 𝓤 H) (Λ : Loops 𝓤 H) (fm : FmC 𝓤 H (W .laws) C) (known-columns : Triple 𝓤 (C #columns·search-columns) Columned′)
+          (known-fill : Triple 𝓤 (C #placing·fill) Fill′) where
         walk : ent 𝓤 (onEntry 𝓤 H A search-rows.signature κs qs a vals) (WpFn 𝓤 H C Λ code.function passed Post)
         walk =
             qed W (raw (onEntry 𝓤 H A search-rows.signature κs qs a vals) ∷ []) ∵ enter ! C Λ code.function passed _ $
@@ -476,8 +476,8 @@ module _ {M : Type 1} (𝓤 : URA M) (H : Heap 𝓤) (A : Atoms 𝓤) (W : Given
             drop ! $ by ! (exits r t w zs (is-answer r _ is) e f)))))))))))))))))))))))))))))))))))))))))
 
 module _ {M : Type 1} (𝓤 : URA M) (H : Heap 𝓤) (A : Atoms 𝓤) (W : Given 𝓤 H A) (mem : Memory → SProp 𝓤) (run : Routine → Fun 𝓤) (𝓣 : Tables 𝓤 H)
-    (known-columns : Triple 𝓤 (𝓣 .C #places·search-columns) (ColumnsSpec 𝓤 H A mem run))
-    (known-fill : Triple 𝓤 (𝓣 .C #places·fill) (FillSpec 𝓤 H A mem run)) where
+    (known-columns : Triple 𝓤 (𝓣 .C #columns·search-columns) (ColumnsSpec 𝓤 H A mem run))
+    (known-fill : Triple 𝓤 (𝓣 .C #placing·fill) (FillSpec 𝓤 H A mem run)) where
   search-rows-walks : Walks 𝓤 H A search-rows.ended stayed (WpFn 𝓤 H (𝓣 .C) (𝓣 .Λ) code.function) (search-rows.clauses 𝓤 H A mem run)
   search-rows-walks =
       walked 𝓤 H A search-rows.ended stayed (search-rows.clauses 𝓤 H A mem run) (WpFn 𝓤 H (𝓣 .C) (𝓣 .Λ) code.function)
@@ -568,6 +568,6 @@ search-rows-spec 𝓤 H 𝓜 𝓖 𝓡 =
     entered 𝓤 H (tripleOf 𝓤 H (𝓖 .A) search-rows.signature (search-rows.spec 𝓤 H (𝓖 .A) (𝓜 .mem) (𝓡 .run)))
     (tables 𝓤 H 𝓜 𝓡 code.env .C) (tables 𝓤 H 𝓜 𝓡 code.env .Λ) #places·search-rows code.function (code.unfolded 𝓤 H 𝓜 𝓡)
     (search-rows-meets 𝓤 H (𝓖 .A) (givenOf 𝓤 H 𝓜 𝓖) (𝓜 .mem) (𝓡 .run) (tablesOf 𝓤 H 𝓜 (tables 𝓤 H 𝓜 𝓡 code.env))
-    (cited 𝓤 H (ColumnsSpec 𝓤 H (𝓖 .A) (𝓜 .mem) (𝓡 .run)) 𝓜 𝓡 code.env #places·search-columns columns-def.routine code.calls-places·search-columns
+    (cited 𝓤 H (ColumnsSpec 𝓤 H (𝓖 .A) (𝓜 .mem) (𝓡 .run)) 𝓜 𝓡 code.env #columns·search-columns columns-def.routine code.calls-columns·search-columns
     (columns-thm.met 𝓤 H 𝓜 𝓖 𝓡))
-    (cited 𝓤 H (FillSpec 𝓤 H (𝓖 .A) (𝓜 .mem) (𝓡 .run)) 𝓜 𝓡 code.env #places·fill fill-def.routine code.calls-places·fill (fill-thm.met 𝓤 H 𝓜 𝓖 𝓡)))
+    (cited 𝓤 H (FillSpec 𝓤 H (𝓖 .A) (𝓜 .mem) (𝓡 .run)) 𝓜 𝓡 code.env #placing·fill fill-def.routine code.calls-placing·fill (fill-thm.met 𝓤 H 𝓜 𝓖 𝓡)))

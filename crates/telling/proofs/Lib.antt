@@ -1,0 +1,3 @@
+-- Laws that the proofs of this crate cite.
+--     Telling        from what a search promises to what is told of it
+mod Telling
