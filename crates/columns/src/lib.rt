@@ -10,8 +10,8 @@ ghost use Rattle.answering.specs.Answered.{Searched};
 ghost use Rattle.placing.specs.Counts.{lesserOf};
 ghost use Rattle.columns.specs.Contracts.{Columned};
 
-// What a search has found: its answer, and its shortlist by columns, of which the first `count` places are to be
-// written. 1,024 places hold the longest.
+// What a search has found: its answer, and its shortlist by columns, of which the first `count`
+// places are to be written. 1,024 places hold the longest.
 pub struct Kept {
     pub answer: Answer,
     pub count: usize,

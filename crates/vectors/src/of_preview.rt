@@ -1,6 +1,7 @@
 // The previewer's program, from the bytes on its standard input to the text that it prints.
 ghost use Prim.Native.Nat.{_≤_};
-use case_fields::input;
+use crate::input;
+use crate::print;
 
 // How many of the bytes it takes: at most 33,312.
 fn taken(length: usize) -> usize
@@ -30,7 +31,7 @@ fn show(bytes: &[u8]) {
         &mut work,
         &mut out,
     );
-    case_lines::text(&out[0..end]);
+    print::text(&out[0..end]);
 }
 
 // Whether the case was whole.
@@ -41,7 +42,7 @@ pub fn run(number: u32) -> bool {
         return false;
     }
     let end = taken(told.count);
-    case_lines::case(number);
+    print::case(number);
     show(&bytes[0..end]);
     true
 }
