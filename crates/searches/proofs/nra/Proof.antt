@@ -1,6 +1,5 @@
 -- `searches::nra` meets its contract: it is the search of its number.
 -- Assumes nothing.
-use borrow.Author.Needs.{needs}
 use Rattle.running.specs.Contracts.{searchAt}
 use Rattle.searches.proofs.nra.Statement.{statement}
 use Rattle.searches.proofs.nra.Tie as tie
@@ -9,19 +8,29 @@ search-requires : tie.Need-search-requires
 search-requires c κs = tt
 
 same-length : tie.Need-same-length
-same-length c = search needs
+same-length c =
+    let after-search = (c .before .before .before .before .before .before .before .before .before .before) in
+    after-search .search .kept .1 .1 .1 .1 .1 .1 .1 .1 .0
 
 same-length-2 : tie.Need-same-length-2
-same-length-2 c = search needs
+same-length-2 c =
+    let after-search = (c .before .before .before .before .before .before .before .before .before .before) in
+    after-search .search .kept .1 .1 .1 .1 .1 .1 .1 .1 .1 .0
 
 same-length-3 : tie.Need-same-length-3
-same-length-3 c = search needs
+same-length-3 c =
+    let after-search = (c .before .before .before .before .before .before .before .before .before .before) in
+    after-search .search .kept .1 .1 .1 .1 .1 .1 .1 .1 .1 .1 .0
 
 same-length-4 : tie.Need-same-length-4
-same-length-4 c = search needs
+same-length-4 c =
+    let after-search = (c .before .before .before .before .before .before .before .before .before .before) in
+    after-search .search .kept .1 .1 .1 .1 .1 .1 .1 .1 .1 .1 .1 .0
 
 same-length-5 : tie.Need-same-length-5
-same-length-5 c = search needs
+same-length-5 c =
+    let after-search = (c .before .before .before .before .before .before .before .before .before .before) in
+    after-search .search .kept .1 .1 .1 .1 .1 .1 .1 .1 .1 .1 .1 .1 .0
 
 returns : tie.Need-returns
 unfolding searchAt
