@@ -14,9 +14,9 @@ use Rattle.model.specs.Searches.{Search}
 use Rattle.model.specs.Refusals.{Lent}
 use Rattle.model.specs.Records.{Record, theQuery, theLists, chosen}
 use Rattle.records.specs.Contracts.{lentOf, startOf, WeightsChosen}
-use Rattle.capi.specs.Choosing.{chosen-length}
+use Rattle.reporting.specs.Choosing.{chosen-length}
 use Rattle.telling.specs.Told.{SearchTold}
-use Rattle.capi.specs.Told.{sourceNumber, CheckTold, QueryTold, ListsTold, PartTold}
+use Rattle.reporting.specs.Told.{sourceNumber, CheckTold, QueryTold, ListsTold, PartTold}
 
 -- The results of a search: what it returns, the array, the five slices
 pub record SameSearch (number number′ : ℕ) (told picks lows highs tally work told′ picks′ lows′ highs′ tally′ work′ : List ℕ) : Type 0 where

@@ -1,12 +1,16 @@
 // The library under C names. A slice is a pointer and then its number of elements, an array a
 // pointer. Each function is thin over a proved one and tells the same numbers: what that one answers
 // stands in the array that C lends.
+use reporting::check_told;
+use reporting::lists_told;
+use reporting::query_told;
+use reporting::weights_told;
 use telling::searched;
 ghost use Rattle.model.specs.Searches.{TA, BPA, BPA2, NRA};
 ghost use Rattle.lists.specs.Contracts.{poses};
 ghost use Rattle.admission.specs.Contracts.{lentWith};
 ghost use Rattle.telling.specs.Told.{SearchTold};
-ghost use Rattle.capi.specs.Told.{CheckTold, QueryTold, ListsTold, PartTold};
+ghost use Rattle.reporting.specs.Told.{CheckTold, QueryTold, ListsTold, PartTold};
 
 // The threshold algorithm.
 #[no_mangle]
@@ -181,9 +185,7 @@ pub extern "C" fn rutlark_check_lists(
     ensures { λ r. ⌜ CheckTold (poses m n (now (items .entry)) (now (scores .entry))) (now (work .entry)) r
         (now (told .exit)) (now (work .exit)) ⌝ }
 {
-    let found = lists::check_lists(m, n, items, scores, work);
-    *told = [found.number, found.list, found.position];
-    found.number
+    check_told(m, n, items, scores, work, told)
 }
 
 // The read of a query record. The array's numbers are `usize`, as a search takes them.
@@ -191,9 +193,7 @@ pub extern "C" fn rutlark_check_lists(
 pub extern "C" fn rutlark_read_query(bytes: &[u8], told: &mut [usize; 5]) -> u32
     ensures { λ r. ⌜ QueryTold (now (bytes .entry)) r (now (told .exit)) ⌝ }
 {
-    let q = records::read_query(bytes);
-    *told = [q.number as usize, q.rule as usize, q.k, q.c, q.bytes];
-    q.number
+    query_told(bytes, told)
 }
 
 // The read of a list record into two slices.
@@ -207,15 +207,12 @@ pub extern "C" fn rutlark_read_lists(
     ensures { λ r. ⌜ ListsTold (now (bytes .entry)) (now (items .entry)) (now (scores .entry)) r
         (now (told .exit)) (now (items .exit)) (now (scores .exit)) ⌝ }
 {
-    let read = records::read_lists(bytes, items, scores);
-    *told = [read.number as usize, read.m, read.n];
-    read.number
+    lists_told(bytes, items, scores, told)
 }
 
 // The weights that a query is to be searched with, as a part of the one record or the other. An
-// exported function returns no slice, so it tells the record (0 the query, 1 the lists), where the
-// part starts in it and how many bytes it is. Weights that are there are at least one pair, so an
-// empty part is that of refused records.
+// exported function returns no slice, so it tells the record, where the part starts in it and how many
+// bytes it is.
 #[no_mangle]
 pub extern "C" fn rutlark_chosen_weights<'a>(
     query: &'a [u8],
@@ -224,17 +221,5 @@ pub extern "C" fn rutlark_chosen_weights<'a>(
 ) -> usize
     ensures { λ r. ⌜ PartTold (now (query .entry)) (now (lists .entry)) r (now (told .exit)) ⌝ }
 {
-    let weights = records::chosen_weights(query, lists);
-    let size = weights.len();
-    let own = records::read_query(query);
-    if size == 0 {
-        *told = [0, 0, 0];
-        return 0;
-    }
-    if own.c == 0 {
-        *told = [1, 8, size];
-        return size;
-    }
-    *told = [0, 9, size];
-    size
+    weights_told(query, lists, told)
 }

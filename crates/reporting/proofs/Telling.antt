@@ -12,7 +12,7 @@ use Rattle.lists.specs.Contracts.{ListsChecked}
 use Rattle.records.specs.declared.QueryRead.{QueryRead}
 use Rattle.records.specs.declared.ListsRead.{ListsRead}
 use Rattle.records.specs.Contracts.{QueryIsRead, ListsAreRead}
-use Rattle.capi.specs.Told.{checkNumbers, queryNumbers, listsNumbers, CheckTold, QueryTold, ListsTold}
+use Rattle.reporting.specs.Told.{checkNumbers, queryNumbers, listsNumbers, CheckTold, QueryTold, ListsTold}
 
 pub check-told : {s : Poses} {work after : List ℕ} {c : Checked} → ListsChecked s work c after
     → CheckTold s work (c .number) (c .number ∷ c .list ∷ c .position ∷ []) after

@@ -1,9 +1,9 @@
--- `capi::rutlark_read_lists` meets its contract: the read's answer, told.
+-- `reporting::lists_told` meets its contract: the read's answer, told.
 -- Assumes nothing.
 use borrow.Author.Needs.{needs}
-use Rattle.capi.proofs.Telling.{lists-told}
-use Rattle.capi.proofs.rutlark_read_lists.Statement.{statement}
-use Rattle.capi.proofs.rutlark_read_lists.Tie as tie
+use Rattle.reporting.proofs.Telling.{lists-told}
+use Rattle.reporting.proofs.lists_told.Statement.{statement}
+use Rattle.reporting.proofs.lists_told.Tie as tie
 
 read-lists-requires : tie.Need-read-lists-requires
 read-lists-requires c κs = tt
@@ -22,6 +22,6 @@ returns c =
     let after-read = (c .before .before .before .before .before .before) in
     lists-told (after-read .read-lists .ensures)
 
-pub rutlark-read-lists-spec : {M : Type 1} → statement M
-rutlark-read-lists-spec =
+pub lists-told-spec : {M : Type 1} → statement M
+lists-told-spec =
     tie.close (tie.spec read-lists-requires cast-t10 same-length same-length-2 returns)

@@ -1,8 +1,8 @@
--- `capi::rutlark_chosen_weights` meets its contract: the part is empty, or the query has no weights, or it has its own.
+-- `reporting::weights_told` meets its contract: the part is empty, or the query has no weights, or it has its own.
 -- Assumes nothing.
-use Rattle.capi.specs.Choosing.{none-told, house-told, own-told}
-use Rattle.capi.proofs.rutlark_chosen_weights.Statement.{statement}
-use Rattle.capi.proofs.rutlark_chosen_weights.Tie as tie
+use Rattle.reporting.specs.Choosing.{none-told, house-told, own-told}
+use Rattle.reporting.proofs.weights_told.Statement.{statement}
+use Rattle.reporting.proofs.weights_told.Tie as tie
 
 chosen-weights-requires : tie.Need-chosen-weights-requires
 chosen-weights-requires c κs = tt
@@ -39,6 +39,6 @@ returns-3 c =
     own-told (args .query .now) (args .lists .now) (after-chosen .chosen-weights .ensures .holds)
     (after-read .read-query .ensures) (else1 .if1 .left) (else2 .if2 .left)
 
-pub rutlark-chosen-weights-spec : {M : Type 1} → statement M
-rutlark-chosen-weights-spec =
+pub weights-told-spec : {M : Type 1} → statement M
+weights-told-spec =
     tie.close (tie.spec chosen-weights-requires read-query-requires returns returns-2 returns-3)

@@ -15,7 +15,7 @@ use Rattle.records.specs.declared.QueryRead.{QueryRead}
 use Rattle.records.specs.Contracts.{QueryIsRead}
 use Rattle.records.specs.Held.{lists-held}
 use Rattle.records.specs.Choice.{noPart, housePart, ownPart, weightsOf, chosen-of-refused-query, chosen-of-refused-lists, chosen-house, chosen-own, house-length, own-length}
-use Rattle.capi.specs.Told.{sourceNumber, PartTold}
+use Rattle.reporting.specs.Told.{sourceNumber, PartTold}
 
 -- a number is 0 or it is not
 zero-or-more : {X : Type 0} (x : ℕ) → (x ≡ 0 → X) → ((x ≡ 0 → ⊥) → X) → X
