@@ -107,12 +107,19 @@ def compiled_module(module, triple, cpu):
 
 
 def proved_module():
-    """The LLVM module that the kit's compiler is given for the static library. A kit whose compiler is a script around it writes it down."""
+    """The LLVM module that the kit's compiler is given for the static library, which is made with it. A kit whose compiler is a script
+    around it writes the module down. Where the archive was there already it must come out the same."""
     module = MODULES / "proved.bc"
-    if newer_than_the_crates(module):
+    if newer_than_the_crates(module) and newer_than_the_crates(LIBRARY):
         return module
-    MODULES.mkdir(parents=True, exist_ok=True)
-    make_library()
+    before = LIBRARY.read_bytes() if newer_than_the_crates(LIBRARY) else None
+    run(["rt", "staticlib", "capi"], env=dict(os.environ, RATTLE_HOME=str(kit_that_writes_down(module))))
+    if before not in (None, LIBRARY.read_bytes()):
+        sys.exit("FAILED: the archive is another one where its module was written down")
+    return module
+
+
+def kit_that_writes_down(module):
     shadow = MODULES / "kit"
     shutil.rmtree(shadow, ignore_errors=True)
     tools = kit()
@@ -126,11 +133,7 @@ def proved_module():
     clang.unlink()
     clang.write_text(f'#!/bin/sh\ncp module.bc "{module}" || exit 1\nexec "{tools}/bin/clang" "$@"\n', encoding="utf-8")
     clang.chmod(0o755)
-    before = LIBRARY.read_bytes()
-    run(["rt", "staticlib", "capi"], env=dict(os.environ, RATTLE_HOME=str(shadow)))
-    if LIBRARY.read_bytes() != before:
-        sys.exit("FAILED: the archive is another one where its module was written down")
-    return module
+    return shadow
 
 
 def library_for_this_processor():
