@@ -1,20 +1,20 @@
 -- The records that the contracts of the searches cite.
 --     lentWith               everything that a search is lent
---     Decoded                the weights as numbers
---     noRoomOf, shapeOf      test 6 and the tests 1 to 6, by the slices' lengths; `shape-is`: they are the page's
+--     shapeOf                the tests 1 to 6, by the slices' lengths; `shape-is`: they are the page's
 --     Admitted               what the tests of a search answer, and the work slice afterwards
 -- Assumes nothing.
 use mathlib.Core.Path.{_≡_, refl}
-use mathlib.Core.Bool.{Bool, _||_}
+use mathlib.Core.Bool.{_||_}
 use mathlib.Core.List.{List}
 use Prim.Native.Nat.{ℕ, _*_}
 use lib.Dec.{ltb}
-use lib.ListN.{length, getD}
-use Rattle.model.specs.Refusals.{Verdict, accepted, _when_, _then_, Lent, posesOf, weightOf, wrongSize, wrongK, wrongRule, wrongWeights, short, noLists, noRoom, searchShape, searchVerdict}
+use lib.ListN.{length}
+use Rattle.model.specs.Refusals.{Verdict, accepted, _when_, _then_, Lent, posesOf, wrongSize, wrongK, wrongRule, wrongWeights, short, noLists, noRoom, searchShape, searchVerdict}
 use Rattle.model.specs.Answers.{told, workAfter}
 use Rattle.lists.specs.declared.Checked.{Checked}
 use Rattle.lists.specs.Contracts.{poses, valueOf}
 use Rattle.lists.specs.Promises.{Accepted}
+use Rattle.testing.specs.Contracts.{noRoomOf}
 
 -- everything that a search is lent
 abbrev pub lentWith : ℕ → ℕ → ℕ → ℕ → List ℕ → List ℕ → List ℕ → List ℕ → List ℕ → List ℕ → List ℕ → List ℕ → Lent
@@ -33,15 +33,6 @@ lentWith m n rule k weights items scores picks lows highs tally work =
       tally = tally;
       work = work;
     }
-
--- the weights as numbers, list by list, and 0 past the last
-pub record Decoded (bytes numbers : List ℕ) : Type 0 where
-  pub weight : (i : ℕ) → getD numbers i 0 ≡ weightOf bytes i
-
--- test 6, by the slices' lengths
-abbrev pub noRoomOf : ℕ → ℕ → ℕ → ℕ → ℕ → ℕ → ℕ → Bool
-noRoomOf k size picks lows highs tally work =
-    ltb picks k || ltb lows k || ltb highs k || ltb tally size || ltb work size
 
 -- the tests 1 to 6, by the slices' lengths
 unfoldable pub shapeOf : ℕ → ℕ → ℕ → ℕ → List ℕ → ℕ → ℕ → ℕ → ℕ → ℕ → ℕ → ℕ → Verdict

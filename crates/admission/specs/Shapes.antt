@@ -1,5 +1,4 @@
 -- The tests of a search as laws: what they let pass.
---     weight-past        past the last weight there is none
 --     weights-long, weight-small     weights that pass their test
 --     k-passes           a k that passes its test
 --     Flat, numbered-shape, flat-shape       a shape's refusal has a number that is not 0, and carries 0, 0
@@ -11,24 +10,21 @@
 use mathlib.Core.Path.{_≡_, refl, sym, _∙_}
 use mathlib.Core.Bool.{Bool, true, false, not, _||_}
 use mathlib.Core.List.{List}
-use Prim.Native.Nat.{ℕ, zero, suc, _+_, _*_, _≤_}
+use Prim.Native.Nat.{ℕ, zero, suc, _*_, _≤_}
 use native.Mathlib.Omega.{arith}
 use lib.Dec.{eqb, ltb}
-use lib.ListN.{length, List·getD-eq-default}
+use lib.ListN.{length}
 use borrow.Author.Tests.{ltb-true, ltb-false, le-ltb, eqb-true, eqb-false, not-false}
 use Rattle.model.specs.Words.{someBelow}
-use Rattle.model.specs.Refusals.{Verdict, accepted, refused, _when_, _then_, Lent, posesOf, pair, weightOf, wrongSize, wrongK, wrongRule, wrongWeights, short, noLists, inLists, searchShape, searchVerdict, checkShape, checkVerdict}
+use Rattle.model.specs.Refusals.{Verdict, accepted, refused, _when_, _then_, Lent, posesOf, weightOf, wrongSize, wrongK, wrongRule, wrongWeights, short, noLists, inLists, searchShape, searchVerdict, checkShape, checkVerdict}
 use Rattle.model.specs.Answers.{told}
 use Rattle.laws.specs.Tests.{by-cases, or-no, some-not}
 use Rattle.laws.specs.Verdicts.{when-passes, then-first, then-second, Numbered, numbered-when, numbered-then, numbered-lists}
 use Rattle.laws.specs.Accepted.{Valid, valid}
 use Rattle.lists.specs.Contracts.{poses}
-use Rattle.admission.specs.Contracts.{noRoomOf, shapeOf, shape-is}
-
--- past the last weight there is none
-pub weight-past : (b : List ℕ) (m i : ℕ) → length b ≡ 2 * m → m ≤ i → weightOf b i ≡ 0
-unfolding weightOf pair
-weight-past b m i e h = rw (List·getD-eq-default b 0 {n = 2 * i} (omega arith), List·getD-eq-default b 0 {n = 2 * i + 1} (omega arith))
+use Rattle.testing.specs.Contracts.{noRoomOf}
+use Rattle.testing.specs.Weights.{weight-past}
+use Rattle.admission.specs.Contracts.{shapeOf, shape-is}
 
 -- what the weights' test lets pass: they are 2m bytes, and no weight is above 1,000. Past the last there is none
 pub weights-long : (m : ℕ) (bytes : List ℕ) → wrongWeights m bytes ≡ false → length bytes ≡ 2 * m

@@ -22,7 +22,7 @@ use Rattle.admission.specs.Passing.{TestsPassed}
 use Rattle.meeting.specs.declared.Done.{Done}
 use Rattle.meeting.specs.Contracts.{queryWith, Readable, Ran}
 use Rattle.answering.specs.declared.Answer.{Answer}
-use Rattle.admission.specs.Contracts.{Decoded}
+use Rattle.testing.specs.Contracts.{Decoded}
 use Rattle.answering.specs.Answered.{RefusedBy, Tells, Searched}
 use Rattle.answering.specs.Shortlists.{items-of, lows-of, highs-of}
 use Rattle.admission.specs.Shapes.{numbered-search}

@@ -96,7 +96,7 @@ pub fn search(
     if tested.number != 0 {
         return refused(tested);
     }
-    let numbers = admission::decode(m, weights);
+    let numbers = testing::decode(m, weights);
     let done = running::run(
         which,
         m,

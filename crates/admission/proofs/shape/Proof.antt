@@ -7,7 +7,8 @@ use native.Mathlib.Omega.{arith}
 use borrow.Author.Tests.{lt-ltb, le-ltb}
 use Rattle.model.specs.Refusals.{wrongSize, wrongK, wrongRule, wrongWeights}
 use Rattle.laws.specs.Accepted.{sized, size-fits}
-use Rattle.admission.specs.Contracts.{noRoomOf, shapeOf}
+use Rattle.testing.specs.Contracts.{noRoomOf}
+use Rattle.admission.specs.Contracts.{shapeOf}
 use Rattle.admission.proofs.shape.Statement.{statement}
 use Rattle.admission.proofs.shape.Tie as tie
 

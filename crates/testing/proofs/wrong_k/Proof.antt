@@ -1,9 +1,9 @@
--- `admission::wrong_k` meets its contract.
+-- `testing::wrong_k` meets its contract.
 -- Assumes nothing.
 use borrow.Author.Tests.{eq-eqb, ne-eqb}
 use Rattle.model.specs.Refusals.{wrongK}
-use Rattle.admission.proofs.wrong_k.Statement.{statement}
-use Rattle.admission.proofs.wrong_k.Tie as tie
+use Rattle.testing.proofs.wrong_k.Statement.{statement}
+use Rattle.testing.proofs.wrong_k.Tie as tie
 
 returns : tie.Need-returns
 unfolding wrongK

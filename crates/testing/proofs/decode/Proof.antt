@@ -1,4 +1,4 @@
--- `admission::decode` meets its contract. The loop's invariant: the first i weights are decoded, the rest are 0; the
+-- `testing::decode` meets its contract. The loop's invariant: the first i weights are decoded, the rest are 0; the
 -- measure is how many are left.
 -- Assumes nothing.
 use mathlib.Core.Path.{_≡_, sym, _∙_}
@@ -12,9 +12,9 @@ use borrow.Author.Tests.{ltb-true, ltb-false}
 use Rattle.model.specs.Refusals.{weightOf}
 use Rattle.laws.specs.Tests.{by-cases, below-suc}
 use Rattle.laws.specs.Lists.{zeros-at}
-use Rattle.admission.specs.Shapes.{weight-past}
-use Rattle.admission.proofs.decode.Statement.{statement}
-use Rattle.admission.proofs.decode.Tie as tie
+use Rattle.testing.specs.Weights.{weight-past}
+use Rattle.testing.proofs.decode.Statement.{statement}
+use Rattle.testing.proofs.decode.Tie as tie
 
 abbrev Inv-loop : tie.InvT-loop
 Inv-loop m weights numbers₀ i₀ numbers i =

@@ -1,4 +1,4 @@
--- `admission::wrong_weights` meets its contract. The loop's invariant: the first i weights are at most 1,000; the measure
+-- `testing::wrong_weights` meets its contract. The loop's invariant: the first i weights are at most 1,000; the measure
 -- is how many are left.
 -- Assumes nothing.
 use mathlib.Core.Path.{_≡_, sym}
@@ -11,8 +11,8 @@ use borrow.Author.Tests.{eq-eqb, ne-eqb, lt-ltb, le-ltb}
 use borrow.Author.Count.{below-more}
 use Rattle.model.specs.Refusals.{weightOf, wrongWeights}
 use Rattle.laws.specs.Tests.{some-hit, some-none}
-use Rattle.admission.proofs.wrong_weights.Statement.{statement}
-use Rattle.admission.proofs.wrong_weights.Tie as tie
+use Rattle.testing.proofs.wrong_weights.Statement.{statement}
+use Rattle.testing.proofs.wrong_weights.Tie as tie
 
 abbrev Inv-loop : tie.InvT-loop
 Inv-loop m weights i₀ i = (i ≤ m) × ((j : ℕ) → j < i → ltb 1000 (weightOf weights j) ≡ false)

@@ -1,8 +1,8 @@
--- `admission::no_room` meets its contract: each way out fixes one of the five comparisons.
+-- `testing::no_room` meets its contract: each way out fixes one of the five comparisons.
 -- Assumes nothing.
 use borrow.Author.Tests.{lt-ltb, le-ltb}
-use Rattle.admission.proofs.no_room.Statement.{statement}
-use Rattle.admission.proofs.no_room.Tie as tie
+use Rattle.testing.proofs.no_room.Statement.{statement}
+use Rattle.testing.proofs.no_room.Tie as tie
 
 returns : tie.Need-returns
 returns c =
