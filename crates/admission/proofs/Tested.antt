@@ -7,8 +7,9 @@ use lib.ListN.{length}
 use Rattle.model.specs.Refusals.{Verdict, accepted, refused, posesOf, searchShape, searchVerdict}
 use Rattle.model.specs.Answers.{told, workAfter}
 use Rattle.laws.specs.Verdicts.{by-verdict, told-zero}
-use Rattle.lists.specs.declared.Checked.{Checked}
-use Rattle.lists.specs.Contracts.{poses, valueOf, ListsChecked}
+use Rattle.entries.specs.declared.Checked.{Checked}
+use Rattle.entries.specs.Contracts.{poses, valueOf}
+use Rattle.lists.specs.Contracts.{ListsChecked}
 use Rattle.lists.specs.Promises.{accepted-promises, checked-lists}
 use Rattle.admission.specs.Contracts.{lentWith, shapeOf, shape-is, Admitted}
 use Rattle.admission.specs.Shapes.{numbered-shape, flat-shape, shape-told, check-shape}

@@ -11,8 +11,8 @@ use lib.Dec.{ltb}
 use lib.ListN.{length}
 use Rattle.model.specs.Refusals.{Verdict, accepted, _when_, _then_, Lent, posesOf, wrongSize, wrongK, wrongRule, wrongWeights, short, noLists, noRoom, searchShape, searchVerdict}
 use Rattle.model.specs.Answers.{told, workAfter}
-use Rattle.lists.specs.declared.Checked.{Checked}
-use Rattle.lists.specs.Contracts.{poses, valueOf}
+use Rattle.entries.specs.declared.Checked.{Checked}
+use Rattle.entries.specs.Contracts.{poses, valueOf}
 use Rattle.lists.specs.Promises.{Accepted}
 use Rattle.testing.specs.Contracts.{noRoomOf}
 

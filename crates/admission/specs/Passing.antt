@@ -7,8 +7,8 @@ use Prim.Native.Nat.{ℕ, _*_, _≤_}
 use lib.ListN.{length}
 use Rattle.model.specs.Refusals.{accepted, weightOf}
 use Rattle.laws.specs.Accepted.{Valid, Placed}
-use Rattle.lists.specs.declared.Checked.{Checked}
-use Rattle.lists.specs.Contracts.{poses}
+use Rattle.entries.specs.declared.Checked.{Checked}
+use Rattle.entries.specs.Contracts.{poses}
 use Rattle.admission.specs.Contracts.{shapeOf, Admitted}
 use Rattle.admission.specs.Shapes.{weights-long, weight-small, k-passes, shape-told}
 

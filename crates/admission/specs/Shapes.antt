@@ -21,7 +21,7 @@ use Rattle.model.specs.Answers.{told}
 use Rattle.laws.specs.Tests.{by-cases, or-no, some-not}
 use Rattle.laws.specs.Verdicts.{when-passes, then-first, then-second, Numbered, numbered-when, numbered-then, numbered-lists}
 use Rattle.laws.specs.Accepted.{Valid, valid}
-use Rattle.lists.specs.Contracts.{poses}
+use Rattle.entries.specs.Contracts.{poses}
 use Rattle.testing.specs.Contracts.{noRoomOf}
 use Rattle.testing.specs.Weights.{weight-past}
 use Rattle.admission.specs.Contracts.{shapeOf, shape-is}

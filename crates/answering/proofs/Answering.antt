@@ -15,8 +15,8 @@ use Rattle.model.specs.Searches.{Search, kept, rows}
 use Rattle.model.specs.Refusals.{Verdict, accepted, refused, Lent, posesOf, queryOf, searchShape, searchVerdict}
 use Rattle.model.specs.Answers.{Told, told, found, foundAfter, searchOf, answering, answer, written, workAfter, slices, slicesWith}
 use Rattle.laws.specs.Verdicts.{by-verdict, told-zero}
-use Rattle.lists.specs.declared.Checked.{Checked}
-use Rattle.lists.specs.Contracts.{poses, valueOf}
+use Rattle.entries.specs.declared.Checked.{Checked}
+use Rattle.entries.specs.Contracts.{poses, valueOf}
 use Rattle.running.specs.Contracts.{searchAt, Did, Runs}
 use Rattle.admission.specs.Passing.{TestsPassed}
 use Rattle.meeting.specs.declared.Done.{Done}

@@ -10,7 +10,7 @@ use Rattle.model.specs.Given.{Poses, Query}
 use Rattle.model.specs.Searches.{Search}
 use Rattle.model.specs.Refusals.{Lent}
 use Rattle.model.specs.Answers.{answer, slices}
-use Rattle.lists.specs.declared.Checked.{Checked}
+use Rattle.entries.specs.declared.Checked.{Checked}
 use Rattle.meeting.specs.declared.Done.{Done}
 use Rattle.answering.specs.declared.Answer.{Answer}
 

@@ -25,7 +25,7 @@ use Rattle.laws.specs.Lookups.{once}
 use Rattle.laws.specs.Overall.{joined-same}
 use Rattle.laws.specs.Ranking.{ranked-same}
 use Rattle.laws.specs.Kept.{kept-item}
-use Rattle.lists.specs.Contracts.{poses}
+use Rattle.entries.specs.Contracts.{poses}
 use Rattle.meeting.specs.Contracts.{queryWith, Readable, Room, readAt, unread}
 use Rattle.bounded.specs.Depth.{tally-deep, read-deep, met-deep}
 use Rattle.halting.specs.Bar.{held, halts}

@@ -3,7 +3,7 @@
 use ending::stopping_row;
 use ranking::rank;
 use tallying::fill_tally;
-ghost use Rattle.lists.specs.Contracts.{poses};
+ghost use Rattle.entries.specs.Contracts.{poses};
 ghost use Rattle.meeting.specs.Contracts.{queryWith, Readable, Room};
 ghost use Rattle.bounded.specs.Contracts.{Finished};
 

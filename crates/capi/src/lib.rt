@@ -7,7 +7,7 @@ use reporting::query_told;
 use reporting::weights_told;
 use telling::searched;
 ghost use Rattle.model.specs.Searches.{TA, BPA, BPA2, NRA};
-ghost use Rattle.lists.specs.Contracts.{poses};
+ghost use Rattle.entries.specs.Contracts.{poses};
 ghost use Rattle.admission.specs.Contracts.{lentWith};
 ghost use Rattle.telling.specs.Told.{SearchTold};
 ghost use Rattle.reporting.specs.Told.{CheckTold, QueryTold, ListsTold, PartTold};

@@ -1,6 +1,6 @@
 // The k greatest of the items' marks, kept as rows are read and marks rise: the least of them tells the
 // k-th low, and no item but those of the row is looked at for it.
-use lists::wide;
+use entries::wide;
 use meeting::bound;
 use meeting::sliding::slide_scores;
 ghost use mathlib.Core.Bool.{true};

@@ -18,8 +18,9 @@ use Rattle.model.specs.Refusals.{accepted, refused, firstRefusal, inList, inLis
 use Rattle.model.specs.Answers.{Told, told, places}
 use Rattle.laws.specs.Lists.{row-length, table-length, table-room, over-beyond, over-more}
 use Rattle.laws.specs.Verdicts.{accepted≢refused, by-verdict, first-refusal-at, numbered-list, told-zero}
-use Rattle.lists.specs.declared.Checked.{Checked}
-use Rattle.lists.specs.Contracts.{valueOf, ListsNoted}
+use Rattle.entries.specs.declared.Checked.{Checked}
+use Rattle.entries.specs.Contracts.{valueOf}
+use Rattle.lists.specs.Contracts.{ListsNoted}
 
 drop-further : (x y : List ℕ) (e c : ℕ) → drop e x ≡ drop e y → e ≤ c → drop c x ≡ drop c y
 drop-further x y e c same h =

@@ -13,8 +13,9 @@ use Rattle.model.specs.Given.{Poses}
 use Rattle.model.specs.Refusals.{accepted, refused, wrongSize, short, noLists, inLists, checkShape, checkVerdict}
 use Rattle.model.specs.Answers.{Told, told, workChecked, workAfter, checked, checkedWork}
 use Rattle.laws.specs.Verdicts.{by-verdict, numbered-lists, told-zero}
-use Rattle.lists.specs.declared.Checked.{Checked}
-use Rattle.lists.specs.Contracts.{valueOf, ListsNoted, ListsChecked}
+use Rattle.entries.specs.declared.Checked.{Checked}
+use Rattle.entries.specs.Contracts.{valueOf}
+use Rattle.lists.specs.Contracts.{ListsNoted, ListsChecked}
 
 module _ (s : Poses) (work : List ℕ) where
   pub shape-1 : wrongSize (s .m) (s .n) ≡ true → checkShape s work ≡ refused 1 0 0

@@ -18,8 +18,9 @@ use Rattle.model.specs.Refusals.{Verdict, accepted, inLists, checkShape, checkV
 use Rattle.model.specs.Answers.{Told, told, places, workChecked, workAfter, checked, checkedWork}
 use Rattle.laws.specs.Verdicts.{then-first, then-second, numbered-check, told-zero}
 use Rattle.laws.specs.Accepted.{Valid, valid, Placed, placed, work-long}
-use Rattle.lists.specs.declared.Checked.{Checked}
-use Rattle.lists.specs.Contracts.{valueOf, ListsChecked}
+use Rattle.entries.specs.declared.Checked.{Checked}
+use Rattle.entries.specs.Contracts.{valueOf}
+use Rattle.lists.specs.Contracts.{ListsChecked}
 
 -- an answer is its three numbers
 pub value-one-to-one : (r t : Checked) → valueOf r ≡ valueOf t → r ≡ t

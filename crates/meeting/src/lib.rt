@@ -4,7 +4,7 @@ pub mod limits;
 pub mod seats;
 pub mod sliding;
 
-use lists::wide;
+use entries::wide;
 ghost use mathlib.Core.Path.{_≡_};
 ghost use Prim.Native.Nat.{_+_, _*_, _≤_, _<_};
 ghost use lib.ListN.{getD};

@@ -1,5 +1,5 @@
 // Visits of positions, kept in the tally, and the best position of a list read off it.
-use lists::wide;
+use entries::wide;
 ghost use mathlib.Core.Path.{_≡_};
 ghost use Rattle.noting.specs.Contracts.{Visitable, visitedOnce, Walkable, walkedTo, Advancing, Advanced};
 

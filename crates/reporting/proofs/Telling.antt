@@ -7,7 +7,7 @@ use Prim.Native.Nat.{ℕ}
 use Rattle.model.specs.Given.{Poses}
 use Rattle.model.specs.Answers.{Told as ToldValue}
 use Rattle.model.specs.Records.{QueryRead as QueryValue, ListsRead as ListsValue}
-use Rattle.lists.specs.declared.Checked.{Checked}
+use Rattle.entries.specs.declared.Checked.{Checked}
 use Rattle.lists.specs.Contracts.{ListsChecked}
 use Rattle.records.specs.declared.QueryRead.{QueryRead}
 use Rattle.records.specs.declared.ListsRead.{ListsRead}

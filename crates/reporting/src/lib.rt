@@ -1,5 +1,5 @@
 // The list check, the two reads and the chosen weights, told as C is told them: each answer's numbers in a lent array.
-ghost use Rattle.lists.specs.Contracts.{poses};
+ghost use Rattle.entries.specs.Contracts.{poses};
 ghost use Rattle.reporting.specs.Told.{CheckTold, QueryTold, ListsTold, PartTold};
 
 // The list check by itself.

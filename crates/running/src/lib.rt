@@ -7,7 +7,7 @@ ghost use mathlib.Core.Path.{_≡_};
 ghost use Prim.Native.Nat.{_≤_};
 ghost use lib.ListN.{length, take};
 ghost use Rattle.model.specs.Words.{over};
-ghost use Rattle.lists.specs.Contracts.{poses};
+ghost use Rattle.entries.specs.Contracts.{poses};
 ghost use Rattle.meeting.specs.Contracts.{queryWith, Readable, Room};
 ghost use Rattle.running.specs.Contracts.{OnlySorted, Runs};
 

@@ -25,7 +25,7 @@ use Rattle.laws.specs.Tests.{or-no}
 use Rattle.laws.specs.Lists.{table-length}
 use Rattle.laws.specs.Accepted.{Valid}
 use Rattle.laws.specs.Lookups.{made-none}
-use Rattle.lists.specs.Contracts.{poses}
+use Rattle.entries.specs.Contracts.{poses}
 use Rattle.meeting.specs.Contracts.{queryWith, Readable, Limited, limitAt}
 use Rattle.meeting.specs.declared.Done.{Done}
 use Rattle.meeting.specs.Shortlist.{Keeps}

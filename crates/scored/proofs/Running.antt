@@ -33,7 +33,7 @@ use Rattle.laws.specs.Rows.{rows-looked, rows-covers}
 use Rattle.laws.specs.Rounds.{none-met, rounds-turns, rounds-covers}
 use Rattle.laws.specs.Kept.{last-at}
 use Rattle.laws.specs.Overall.{joined-same}
-use Rattle.lists.specs.Contracts.{poses}
+use Rattle.entries.specs.Contracts.{poses}
 use Rattle.meeting.specs.Contracts.{queryWith, limitAt}
 use Rattle.meeting.specs.Keeping.{listing-none}
 use Rattle.stepping.specs.State.{ranking, State, VisitedUpTo}

@@ -8,7 +8,7 @@ use meeting::Done;
 use stepping::rows;
 use stepping::rows::Turn;
 use tallying::clear;
-ghost use Rattle.lists.specs.Contracts.{poses};
+ghost use Rattle.entries.specs.Contracts.{poses};
 ghost use Rattle.meeting.specs.Contracts.{queryWith};
 ghost use Rattle.scored.specs.Run.{Stepping, Stepped, Running, RanBy};
 

@@ -14,7 +14,7 @@ use Rattle.model.specs.Given.{Query}
 use Rattle.model.specs.Accesses.{Access, times, visited, best}
 use Rattle.laws.specs.Tests.{by-cases, first-same}
 use Rattle.laws.specs.Visits.{best-most, best-visited, visited-least}
-use Rattle.lists.specs.Contracts.{poses}
+use Rattle.entries.specs.Contracts.{poses}
 use Rattle.meeting.specs.Contracts.{queryWith, Readable}
 use Rattle.noting.specs.Contracts.{Walkable, walkedTo}
 use Rattle.stepping.specs.State.{State}

@@ -18,7 +18,7 @@ use Rattle.model.specs.Accesses.{Kind, direct, Access, lookup, next, rounds, me
 use Rattle.model.specs.Searches.{ahead, ranked}
 use Rattle.laws.specs.Accepted.{Valid, Placed}
 use Rattle.laws.specs.Meetings.{Whole}
-use Rattle.lists.specs.Contracts.{poses}
+use Rattle.entries.specs.Contracts.{poses}
 use Rattle.meeting.specs.Contracts.{queryWith, Readable, Located, Small}
 use Rattle.meeting.specs.Shortlist.{Keeps, Listing}
 use Rattle.noting.specs.Contracts.{Visitable}

@@ -17,7 +17,7 @@ use Rattle.laws.specs.Lists.{table-length, table-room, table-at, over-at}
 use Rattle.laws.specs.Accepted.{Valid}
 use Rattle.laws.specs.Lookups.{times-append}
 use Rattle.laws.specs.Rows.{rows-most, row-within}
-use Rattle.lists.specs.Contracts.{poses}
+use Rattle.entries.specs.Contracts.{poses}
 use Rattle.meeting.specs.Contracts.{queryWith, Readable, Located, Small}
 use Rattle.meeting.specs.Shortlist.{Keeps}
 use Rattle.noting.specs.Contracts.{Visitable}

@@ -4,10 +4,10 @@ ghost use Prim.Native.Nat.{_+_, _*_, _<_};
 ghost use lib.Dec.{ltb};
 ghost use Rattle.model.specs.Accesses.{rowsTA};
 ghost use Rattle.laws.specs.Lookups.{once};
-ghost use Rattle.lists.specs.Contracts.{poses};
+ghost use Rattle.entries.specs.Contracts.{poses};
 ghost use Rattle.meeting.specs.Contracts.{queryWith};
 ghost use Rattle.stepping.specs.State.{Meeting, Met, Goes, Standing, Looking, Turned, Rounding, Rounded};
-use lists::wide;
+use entries::wide;
 use noting::shortlist;
 use noting::visits;
 

@@ -8,7 +8,7 @@ use borrow.Author.Needs.{needs}
 use Rattle.model.specs.Given.{Poses}
 use Rattle.model.specs.Refusals.{wrongSize}
 use Rattle.laws.specs.Accepted.{sized, size-fits}
-use Rattle.lists.specs.Contracts.{poses}
+use Rattle.entries.specs.Contracts.{poses}
 use Rattle.lists.proofs.Whole.{shape-1, shape-5-items, shape-5-scores, shape-6, shape-passes, refused-by-shape, accepted-lists, refused-lists}
 use Rattle.lists.proofs.check_lists.Statement.{statement}
 use Rattle.lists.proofs.check_lists.Tie as tie

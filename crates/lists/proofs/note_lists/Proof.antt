@@ -7,7 +7,7 @@ use native.Mathlib.Omega.{arith}
 use lib.ListN.{length}
 use borrow.Rule.Slice.PartMut.{putMid, mid-len, same-len-mid}
 use Rattle.laws.specs.Lists.{table-room}
-use Rattle.lists.specs.Contracts.{poses}
+use Rattle.entries.specs.Contracts.{poses}
 use Rattle.lists.proofs.Rows.{RowsNoted, rows-start, rows-go-on, rows-stop, rows-done, list-accepted}
 use Rattle.lists.proofs.note_lists.Statement.{statement}
 use Rattle.lists.proofs.note_lists.Tie as tie

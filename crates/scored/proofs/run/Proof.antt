@@ -10,7 +10,7 @@ use lib.ListN.{length, drop, replicate, length-replicate}
 use Rattle.model.specs.Words.{over}
 use Rattle.model.specs.Given.{Poses, Query}
 use Rattle.laws.specs.Lists.{zeros-at}
-use Rattle.lists.specs.Contracts.{poses}
+use Rattle.entries.specs.Contracts.{poses}
 use Rattle.meeting.specs.Contracts.{queryWith}
 use Rattle.scored.proofs.Between.{Between, After, between-starts, standing-between, advancing-then, row-made, limited-after, lows-after, after-goes-on, run-ends}
 use Rattle.scored.proofs.run.Statement.{statement}

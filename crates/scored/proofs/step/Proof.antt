@@ -4,7 +4,7 @@ use Prim.Native.Nat.{_+_}
 use native.Mathlib.Omega.{arith}
 use borrow.Author.Needs.{needs}
 use Rattle.model.specs.Given.{Poses}
-use Rattle.lists.specs.Contracts.{poses}
+use Rattle.entries.specs.Contracts.{poses}
 use Rattle.scored.proofs.Running.{steps-rounds, steps-rows, kind-direct, kind-sorted, row-reached, row-counted}
 use Rattle.scored.proofs.step.Statement.{statement}
 use Rattle.scored.proofs.step.Tie as tie

@@ -9,7 +9,7 @@ use borrow.Author.Needs.{needs}
 use Rattle.model.specs.Given.{Poses, item}
 use Rattle.model.specs.Accesses.{direct}
 use Rattle.laws.specs.Lists.{table-room}
-use Rattle.lists.specs.Contracts.{poses}
+use Rattle.entries.specs.Contracts.{poses}
 use Rattle.stepping.specs.Steps.{goes-none, goes-to}
 use Rattle.stepping.proofs.Turning.{next-over, next-look}
 use Rattle.stepping.proofs.rows.look.Statement.{statement}

@@ -10,7 +10,7 @@ use borrow.Author.Needs.{needs}
 use borrow.Author.Tests.{le-leb, lt-leb}
 use Rattle.model.specs.Given.{total}
 use Rattle.laws.specs.Lists.{table-room}
-use Rattle.lists.specs.Contracts.{poses}
+use Rattle.entries.specs.Contracts.{poses}
 use Rattle.meeting.specs.Contracts.{queryWith}
 use Rattle.noting.specs.Contracts.{visitedOnce}
 use Rattle.stepping.specs.State.{ranking}

@@ -13,7 +13,7 @@ use Rattle.model.specs.Accesses.{next, round, rounds, best}
 use Rattle.laws.specs.Lookups.{once}
 use Rattle.laws.specs.Tests.{by-cases}
 use Rattle.laws.specs.Visits.{best-most}
-use Rattle.lists.specs.Contracts.{poses}
+use Rattle.entries.specs.Contracts.{poses}
 use Rattle.meeting.specs.Contracts.{queryWith}
 use Rattle.stepping.specs.State.{State, Standing, VisitedUpTo}
 use Rattle.stepping.specs.Steps.{state-now, meeting-of}

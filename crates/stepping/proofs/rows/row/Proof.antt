@@ -12,7 +12,7 @@ use Rattle.model.specs.Accesses.{sorted, lookup, rowTA, rowsTA}
 use Rattle.laws.specs.Lists.{table-room}
 use Rattle.laws.specs.Looked.{looked-whole}
 use Rattle.laws.specs.Rows.{row-looked, rows-looked}
-use Rattle.lists.specs.Contracts.{poses}
+use Rattle.entries.specs.Contracts.{poses}
 use Rattle.meeting.specs.Contracts.{queryWith}
 use Rattle.stepping.specs.State.{State, Goes}
 use Rattle.stepping.specs.Steps.{goes-none, goes-on, goes-to, state-now, meeting-of, row-count}

@@ -1,4 +1,4 @@
--- `lists::clear` meets its contract. The loop's invariant: the first i entries are 0 and the rest as lent; the measure is what
+-- `entries::clear` meets its contract. The loop's invariant: the first i entries are 0 and the rest as lent; the measure is what
 -- is left of `size`.
 -- Assumes nothing.
 use mathlib.Core.Path.{_≡_, refl}
@@ -8,8 +8,8 @@ use lib.ListN.{length, drop, replicate, length-set}
 use native.Mathlib.Omega.{arith}
 use borrow.Author.Needs.{needs}
 use borrow.Author.Fill.{fill-more}
-use Rattle.lists.proofs.clear.Statement.{statement}
-use Rattle.lists.proofs.clear.Tie as tie
+use Rattle.entries.proofs.clear.Statement.{statement}
+use Rattle.entries.proofs.clear.Tie as tie
 
 abbrev Inv-loop : tie.InvT-loop
 Inv-loop work₀ size i₀ work i = (i ≤ size) × (length work ≡ length work₀) × (work ≡ replicate i 0 ++ drop i work₀)

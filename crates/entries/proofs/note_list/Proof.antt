@@ -1,4 +1,4 @@
--- `lists::note_list` meets its contract. The loop's invariant: p positions have passed (`Walked`), and a place is lent for each
+-- `entries::note_list` meets its contract. The loop's invariant: p positions have passed (`Walked`), and a place is lent for each
 -- item; the measure is what is left of the list.
 -- Assumes nothing.
 use mathlib.Core.Path.{_≡_, sym, ap, _∙_}
@@ -8,10 +8,10 @@ use lib.ListN.{length, getD, drop, replicate, length-set, length-replicate, drop
 use native.Mathlib.Omega.{arith}
 use native.Mathlib.Nat.{le-of-eq}
 use Rattle.model.specs.Given.{Poses, item, score}
-use Rattle.lists.specs.Contracts.{poses}
-use Rattle.lists.proofs.Walk.{Walked, walk-starts, walk-goes-on, refused-7, refused-8, refused-9, list-refused, list-passed}
-use Rattle.lists.proofs.note_list.Statement.{statement}
-use Rattle.lists.proofs.note_list.Tie as tie
+use Rattle.entries.specs.Contracts.{poses}
+use Rattle.entries.proofs.Walk.{Walked, walk-starts, walk-goes-on, refused-7, refused-8, refused-9, list-refused, list-passed}
+use Rattle.entries.proofs.note_list.Statement.{statement}
+use Rattle.entries.proofs.note_list.Tie as tie
 
 abbrev Inv-loop : tie.InvT-loop
 Inv-loop i n items scores places₀ base before₀ p₀ places before p =

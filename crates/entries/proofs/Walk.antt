@@ -22,8 +22,8 @@ use Rattle.laws.specs.Lists.{row-at, row-same, row-zeros}
 use Rattle.laws.specs.Verdicts.{accepted≢refused, first-refusal-at}
 use Rattle.laws.specs.Marks.{noted, noted-store, noted-free}
 use Rattle.laws.specs.Accepted.{noted-place}
-use Rattle.lists.specs.declared.Checked.{Checked}
-use Rattle.lists.specs.Contracts.{poses, valueOf, ListNoted}
+use Rattle.entries.specs.declared.Checked.{Checked}
+use Rattle.entries.specs.Contracts.{poses, valueOf, ListNoted}
 
 -- the score before position p of scores g; no score is above 65,535, so the first position never rises
 unfoldable pub scoreBefore : (ℕ → ℕ) → ℕ → ℕ

@@ -1,0 +1,3 @@
+-- Laws that the proofs of this crate cite.
+--     Walk     one list, position by position
+mod Walk
