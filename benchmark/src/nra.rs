@@ -6,78 +6,101 @@ use crate::Done;
 
 pub fn nra(query: &Tested, lent: &mut Lent) -> Done {
     let work = &lent.work[..query.m * query.n];
-    let (mut marks, mut tops) = ([0; 1024], [0; 1024]);
-    let (marks, tops) = (&mut marks[..query.n], &mut tops[..query.k]);
-    let rows = stopping_row(query, work, marks, tops);
-    let top = tops[query.k - 1];
+    let (mut marks, mut tops, mut met) = ([0; 1024], [0; 1024], [0; 1024]);
+    let mut kept = Kept {
+        marks: &mut marks[..query.n],
+        tops: &mut tops[..query.k],
+        met: &mut met[..query.n],
+        count: 0,
+    };
+    let rows = stopping_row(query, work, &mut kept);
+    let top = kept.tops[query.k - 1];
     let mut shortlist = Shortlist::over(query.k, lent.picks, lent.lows, lent.highs);
-    for (item, &mark) in marks.iter().enumerate() {
-        if mark != 0 && top <= mark {
-            shortlist.keep(item as u16, mark - 1, query.high(item, rows, work));
+    for &item in &kept.met[..kept.count] {
+        let mark = kept.marks[usize::from(item)];
+        if top <= mark {
+            shortlist.keep(item, mark - 1, query.high(usize::from(item), rows, work));
         }
     }
     tallied(query, rows, lent.tally)
 }
 
-/// An item's mark is its low and one more, or 0 where it is not met; the k greatest are kept, falling. The item that last stood in the
-/// way of stopping is asked first: mostly it still does.
-fn stopping_row(query: &Tested, work: &[u16], marks: &mut [u32], tops: &mut [u32]) -> usize {
+/// What is kept from row to row. An item's mark is its low and one more, or 0 where it is not met; the k greatest marks fall; the items
+/// met stand in the order in which they were.
+struct Kept<'a> {
+    marks: &'a mut [u32],
+    tops: &'a mut [u32],
+    met: &'a mut [u16],
+    count: usize,
+}
+
+/// The item met that last stood in the way of stopping is asked first: mostly it still does.
+fn stopping_row(query: &Tested, work: &[u16], kept: &mut Kept) -> usize {
     let mut obstacle = 0;
     for rows in 1..=query.n {
         for list in 0..query.m {
-            let item = usize::from(query.items[list * query.n + rows - 1]);
-            let mark = query.low(item, rows, work) + 1;
-            raise(marks[item], mark, tops);
-            marks[item] = mark;
+            kept.read(query, query.items[list * query.n + rows - 1], rows, work);
         }
-        let Some(bar) = tops[query.k - 1].checked_sub(1) else {
+        let Some(bar) = kept.tops[query.k - 1].checked_sub(1) else {
             continue;
         };
-        match first_in_the_way(query, obstacle, rows, bar, marks, work) {
-            Some(item) => obstacle = item,
-            None if few_above(query, rows, bar, marks, work) => return rows,
+        if kept.count < query.n && bar < unmet_high(query, rows) {
+            continue;
+        }
+        match kept.first_in_the_way(query, obstacle, rows, bar, work) {
+            Some(entry) => obstacle = entry,
+            None if kept.few_above(query, rows, bar, work) => return rows,
             None => {}
         }
     }
     query.n
 }
 
-/// From `first` on and then from the front: an item whose high is above the bar while its low does not reach it. Items that are not met
-/// have the row's threshold for their high.
-fn first_in_the_way(
-    query: &Tested,
-    first: usize,
-    rows: usize,
-    bar: u32,
-    marks: &[u32],
-    work: &[u16],
-) -> Option<usize> {
-    let unmet = query.overall(|list| u32::from(query.scores[list * query.n + rows - 1]));
-    let in_the_way = |item: usize, mark: u32| match mark {
-        0 => bar < unmet,
-        _ => mark <= bar && bar < query.high(item, rows, work),
-    };
-    let items = marks.iter().enumerate();
-    let behind = items
-        .clone()
-        .skip(first)
-        .find(|&(item, &mark)| in_the_way(item, mark));
-    behind
-        .or_else(|| {
-            items
-                .take(first)
-                .find(|&(item, &mark)| in_the_way(item, mark))
-        })
-        .map(|(item, _)| item)
+/// Items that are not met have the row's threshold for their high.
+fn unmet_high(query: &Tested, rows: usize) -> u32 {
+    query.overall(|list| u32::from(query.scores[list * query.n + rows - 1]))
 }
 
-/// At most k highs are above the bar; that is so at once where at most k lows reach it.
-fn few_above(query: &Tested, rows: usize, bar: u32, marks: &[u32], work: &[u16]) -> bool {
-    let few = |count: usize| count <= query.k;
-    few(marks.iter().filter(|&&mark| bar < mark).count())
-        || few((0..query.n)
-            .filter(|&item| bar < query.high(item, rows, work))
-            .count())
+impl Kept<'_> {
+    fn read(&mut self, query: &Tested, item: u16, rows: usize, work: &[u16]) {
+        let place = usize::from(item);
+        let new = query.low(place, rows, work) + 1;
+        let old = self.marks[place];
+        self.marks[place] = new;
+        raise(old, new, self.tops);
+        if old == 0 {
+            self.met[self.count] = item;
+            self.count += 1;
+        }
+    }
+
+    /// From `first` on and then from the front: an item met whose high is above the bar while its low does not reach it.
+    fn first_in_the_way(
+        &self,
+        query: &Tested,
+        first: usize,
+        rows: usize,
+        bar: u32,
+        work: &[u16],
+    ) -> Option<usize> {
+        let in_the_way = |&entry: &usize| {
+            let item = usize::from(self.met[entry]);
+            self.marks[item] <= bar && bar < query.high(item, rows, work)
+        };
+        (first..self.count)
+            .find(in_the_way)
+            .or_else(|| (0..first).find(in_the_way))
+    }
+
+    /// At most k highs are above the bar; that is so at once where at most k lows reach it.
+    fn few_above(&self, query: &Tested, rows: usize, bar: u32, work: &[u16]) -> bool {
+        let few = |count: usize| count <= query.k;
+        let reaches = |&&item: &&u16| bar < self.marks[usize::from(item)];
+        few(self.met[..self.count].iter().filter(reaches).count())
+            || few((0..query.n)
+                .filter(|&item| bar < query.high(item, rows, work))
+                .count())
+    }
 }
 
 /// The greatest marks where one that was `old` is now `new`: its own entry goes where it has one, else the least.

@@ -122,7 +122,7 @@ module _ (m n rule : ℕ) (weights items scores work : List ℕ) (w : Readable (
       }
 
   -- the k-th mark is not 0 when NRA stops: its test holds, or every item is met
-  pub top-least : {k r : ℕ} {marks tops : List ℕ} → 1 ≤ k → k ≤ n → Halted v k r → Leading v r k marks tops
+  pub top-least : {k r count : ℕ} {marks tops met : List ℕ} → 1 ≤ k → k ≤ n → Halted v k r → Leading v r k marks tops met count
       → 1 ≤ getD tops (k - 1) 0
   unfolding reachOf markOf metOf
   top-least {k} {r} {marks} {tops} some most found leads =
@@ -177,7 +177,7 @@ module _ (m n rule : ℕ) (weights items scores work : List ℕ) (w : Readable (
       ∙ sym (met-deep s p d)
 
   module _ (k p : ℕ) (least : 1 ≤ p) where
-    pub kept-is : heldOf v k p n ≡ kept s k (NRA s q) p
+    pub kept-is : heldOf v k p ≡ kept s k (NRA s q) p
     unfolding heldOf
     kept-is =
         held-same n k (boundOf v false p) (boundOf v true p) (lowNRA s q p) (highNRA s q p) (metOf v p) (met s (rowsNRA s p))
@@ -193,23 +193,23 @@ module _ (m n rule : ℕ) (weights items scores work : List ℕ) (w : Readable (
 
   module _ {k r filled : ℕ} {picks₀ lows₀ highs₀ tally₀ picks lows highs tally′ : List ℕ}
       (room : Room s k picks₀ lows₀ highs₀ tally₀) (found : Halted v k r)
-      (at : HeldIn v k r n picks₀ lows₀ highs₀ filled picks lows highs) (written : tally′ ≡ over (table (λ i q. once (ltb q r)) n m) tally₀) where
+      (at : HeldIn v k r picks₀ lows₀ highs₀ filled picks lows highs) (written : tally′ ≡ over (table (λ i q. once (ltb q r)) n m) tally₀) where
     holds : r < n → stops s k (NRA s q) r ≡ true
     holds h = sym (stops-is k r (found .row-least)) ∙ found .holds h
 
     fails : (p : ℕ) → 1 ≤ p → p < r → stops s k (NRA s q) p ≡ false
     fails p some less = sym (stops-is k p some) ∙ found .not-sooner p some less
 
-    same-list : heldOf v k r n ≡ kept s k (NRA s q) r
+    same-list : heldOf v k r ≡ kept s k (NRA s q) r
     same-list = kept-is k r (found .row-least)
 
-    held-item : (d : ℕ) → among d (heldOf v k r n) ≡ true → d < n
+    held-item : (d : ℕ) → among d (heldOf v k r) ≡ true → d < n
     unfolding heldOf held
     held-item d y = kept-item (ahead (boundOf v false r) (boundOf v true r)) (metOf v r) n k d y .0
 
     -- what stands for each item kept
-    bounds-are : (f g : ℕ → ℕ) → ((d : ℕ) → d < n → f d ≡ g d) → map f (heldOf v k r n) ≡ map g (kept s k (NRA s q) r)
-    bounds-are f g same = map-same f g (heldOf v k r n) (λ d y. same d (held-item d y)) ∙ ap (map g) same-list
+    bounds-are : (f g : ℕ → ℕ) → ((d : ℕ) → d < n → f d ≡ g d) → map f (heldOf v k r) ≡ map g (kept s k (NRA s q) r)
+    bounds-are f g same = map-same f g (heldOf v k r) (λ d y. same d (held-item d y)) ∙ ap (map g) same-list
 
     pub finishes : Finished s q k r picks₀ lows₀ highs₀ tally₀ picks lows highs tally′
     unfolding NRA

@@ -31,7 +31,8 @@ pub fn run_nra(
 {
     let mut marks: [u32; 1024] = [0; 1024];
     let mut tops: [u32; 1024] = [0; 1024];
-    let row = stopping_row(
+    let mut met: [u16; 1024] = [0; 1024];
+    let stop = stopping_row(
         k,
         m,
         n,
@@ -42,12 +43,15 @@ pub fn run_nra(
         work,
         &mut marks,
         &mut tops,
+        &mut met,
     );
+    let row = stop.row;
     let top = tops[k - 1];
     rank(
         row,
         k,
         top,
+        stop.count,
         m,
         n,
         rule,
@@ -55,6 +59,7 @@ pub fn run_nra(
         scores,
         work,
         &marks,
+        &met,
         picks,
         lows,
         highs,

@@ -9,13 +9,16 @@
 --     passesOf, aboveOf      an item does not stand in the way of stopping; how many highs are above a bar
 --     partsOf                NRA's test by that bar
 --     unmetOf                the high of an item that is not met
---     Blocking               the first of some items that stands in the way
+--     Named                  the first entries of a slice are items
+--     inFirst, Gathered      an item is one of the first entries; these are the items met, each once
+--     listedReach            how many of the first entries have a mark above a bar
+--     Blocking               the first of some entries whose item stands in the way
 -- Assumes nothing.
 use mathlib.Core.Path.{_≡_}
 use mathlib.Core.Bool.{Bool, true, false, cond, _&&_, _||_}
 use mathlib.Core.List.{List}
 use Prim.Native.Nat.{ℕ, suc, _+_, _*_, _≤_, _<_}
-use lib.Dec.{leb, ltb}
+use lib.Dec.{eqb, leb, ltb}
 use native.Mathlib.Omega.{arith}
 use lib.ListN.{length, getD, replicate, getD-replicate}
 use Rattle.model.specs.Words.{someBelow}
@@ -140,9 +143,30 @@ unmetOf v p = limitAt (v .rule) (v .weights) (v .m) (v .n) (replicate 8 p) (v .s
 unfoldable pub partsOf : View → ℕ → ℕ → ℕ → Bool
 partsOf v k p bar = parts (v .n) k (boundOf v false p) (boundOf v true p) (metOf v p) bar
 
--- The first item from `from` on and before `to` that stands in the way, or `to`
-pub record Blocking (v : View) (p bar from to r : ℕ) : Type 0 where
+-- ---- the items met, one after the other
+-- Each of the first c entries of `met` is an item
+pub record Named (n : ℕ) (met : List ℕ) (c : ℕ) : Type 0 where
+  pub within : c ≤ length met
+  pub items-small : (j : ℕ) → j < c → getD met j 0 < n
+
+-- item d is one of the first c entries
+unfoldable pub inFirst : List ℕ → ℕ → ℕ → Bool
+inFirst met c d = someBelow (λ j. eqb d (getD met j 0)) c
+
+-- The first `count` entries of `met` are the items met, which have a mark, each once
+pub record Gathered (n : ℕ) (marks met : List ℕ) (count : ℕ) : Type 0 where
+  pub met-long : n ≤ length met
+  pub items-small : (j : ℕ) → j < count → getD met j 0 < n
+  pub met-are : (d : ℕ) → d < n → inFirst met count d ≡ ltb 0 (getD marks d 0)
+  pub once-each : (j : ℕ) → j < count → inFirst met j (getD met j 0) ≡ false
+
+-- how many of the first c entries have a mark above the bar
+unfoldable pub listedReach : ℕ → List ℕ → List ℕ → ℕ → ℕ
+listedReach c marks met bar = passing (λ j. ltb bar (getD marks (getD met j 0) 0)) c
+
+-- The first entry from `from` on and before `to` whose item stands in the way, or `to`
+pub record Blocking (v : View) (p bar : ℕ) (met : List ℕ) (from to r : ℕ) : Type 0 where
   pub least : from ≤ r
   pub most : r ≤ to
-  pub in-the-way : r < to → passesOf v p bar r ≡ false
-  pub none-before : (d : ℕ) → from ≤ d → d < r → passesOf v p bar d ≡ true
+  pub in-the-way : r < to → passesOf v p bar (getD met r 0) ≡ false
+  pub none-before : (j : ℕ) → from ≤ j → j < r → passesOf v p bar (getD met j 0) ≡ true

@@ -5,22 +5,24 @@
 --     reach-is               how many marks are above a bar: how many met items' lows reach it
 --     blocks-not             an item stands in the way exactly where it fails its part of the test
 --     unmet-high             the high of an item that is not met is the threshold of the row
+--     unmet-blocks, unmet-passes     so all such items stand in the way, or none does
 --     halts-few              fewer than k marks: the test fails
 --     halts-not, halts-yes   else the highest bar that k marks are above tells: an item stands in the way; none does, and few highs are above
+--     halts-unmet            some item is not met, and such items stand in the way
 --     halts-reach            none does, and no more than k marks are above it
 -- Assumes nothing.
 use mathlib.Core.Path.{_≡_, refl, sym, _∙_}
-use mathlib.Core.Bool.{Bool, true, false, not, _&&_, _||_, true≢false}
+use mathlib.Core.Bool.{Bool, true, false, not, _&&_, _||_, and-true, true≢false}
 use mathlib.Core.List.{List}
 use Prim.Native.Nat.{ℕ, suc, _+_, _-_, _*_, _≤_, _<_}
 use native.Mathlib.Nat.{mul-le-mul-right}
 use native.Mathlib.Omega.{arith}
 use lib.Dec.{leb, ltb}
 use lib.ListN.{getD, replicate, getD-replicate}
-use borrow.Author.Tests.{leb-true, leb-false, le-leb, ltb-true, lt-ltb, le-ltb}
+use borrow.Author.Tests.{leb-true, leb-false, le-leb, ltb-true, ltb-false, lt-ltb, le-ltb, not-true, not-false}
 use Rattle.model.specs.Words.{lastOf}
 use Rattle.laws.specs.Tests.{by-cases, and-yes, some-not, every-all, every-at, ltb-not-leb}
-use Rattle.laws.specs.Passing.{passing, passing-same, passing-wider}
+use Rattle.laws.specs.Passing.{passing, passing-same, passing-wider, passing-all}
 use Rattle.laws.specs.Ahead.{or-yes, never}
 use Rattle.laws.specs.Overall.{joined-same, joined-rises, joined-most, product-most}
 use Rattle.meeting.specs.Contracts.{readAt, unread, limitAt}
@@ -110,6 +112,18 @@ module _ {v : View} {p : ℕ} (w : Legible v p) where
         at,
       )))
 
+  module _ (bar d : ℕ) (none : markOf v p d ≡ 0) where
+    -- whether it stands in the way goes by that high alone
+    unmet-in-the-way : ltb bar (unmetOf v p) ≡ not (passesOf v p bar d)
+    unmet-in-the-way =
+        sym (rw (unmet-high d none, none, le-leb 0 bar (omega arith)) (and-true (ltb bar (unmetOf v p)))) ∙ blocks-not bar d
+
+    pub unmet-blocks : bar < unmetOf v p → passesOf v p bar d ≡ false
+    unmet-blocks above = not-true (passesOf v p bar d) (sym unmet-in-the-way ∙ lt-ltb bar (unmetOf v p) above)
+
+    pub unmet-passes : unmetOf v p ≤ bar → passesOf v p bar d ≡ true
+    unmet-passes under = not-false (passesOf v p bar d) (sym unmet-in-the-way ∙ le-ltb bar (unmetOf v p) under)
+
   module _ {marks : List ℕ} (noted : Marked v p marks) where
     pub reach-is : (bar : ℕ) → reachOf (v .n) marks bar ≡ passing (λ d. metOf v p d && leb bar (boundOf v false p d)) (v .n)
     unfolding reachOf
@@ -148,6 +162,20 @@ module _ {v : View} {p : ℕ} (w : Legible v p) where
           (λ y.
           true≢false
           (sym (every-at (λ d. leb (boundOf v true p d) bar || (metOf v p d && leb bar (boundOf v false p d))) (v .n) d (and-yes _ _ y .0) hd) ∙ z))
+
+      pub halts-unmet : bar < unmetOf v p → reachOf (v .n) marks 0 < v .n → haltsOf v k p ≡ false
+      unfolding reachOf
+      halts-unmet above few =
+          never (haltsOf v k p)
+          (λ y.
+          let all-met = passing-all (λ d. ltb 0 (getD marks d 0)) (v .n)
+          (λ d hd.
+          by-cases (ltb 0 (getD marks d 0))
+          (λ t. t)
+          (λ z.
+          let none : markOf v p d ≡ 0 = omega (arith, noted .marks-are d hd, ltb-false 0 (getD marks d 0) z) in
+          absurd (true≢false (sym y ∙ halts-not d hd (unmet-blocks bar d none above))))) in
+          omega arith)
 
       pub halts-yes : ((d : ℕ) → d < v .n → passesOf v p bar d ≡ true) → haltsOf v k p ≡ leb (aboveOf v p bar) k
       unfolding partsOf parts passesOf aboveOf

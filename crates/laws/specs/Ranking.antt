@@ -8,6 +8,7 @@
 --     sorted-cons, sorted-head, sorted-tail, sorted-take     a list in the order by its parts
 --     sorted-once, insert-sorted         no item twice; an insertion keeps the order
 --     ranked-length, ranked-count        how many items are ranked; how many of them pass a further test
+--     ranked-none                        no item passes: none is ranked
 --     ranked-among, ranked-sorted, ranked-once       which items are ranked; in the order; none twice
 --     ranked-same, ranked-more           equal tests; one item more
 -- Assumes nothing.
@@ -257,6 +258,11 @@ module _ (before : ℕ → ℕ → Bool) where
       by-cases (t n)
       (λ (y : t n ≡ true). rw (y, insert-length before n (ranked before t n), ranked-length t n) (omega arith))
       (λ (z : t n ≡ false). rw (z, ranked-length t n) (omega arith))
+
+  pub ranked-none : (t : ℕ → Bool) (n : ℕ) → ((d : ℕ) → t d ≡ false) → ranked before t n ≡ []
+  unfolding ranked
+  ranked-none t zero h = refl
+  ranked-none t (suc n) h = rw (h n) (ranked-none t n h)
 
   pub ranked-among : (t : ℕ → Bool) (d n : ℕ) → among d (ranked before t n) ≡ (ltb d n && t d)
   unfolding ranked among

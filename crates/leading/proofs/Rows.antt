@@ -2,6 +2,7 @@
 --     mark-rises             no mark falls from row to row
 --     mark-stays             an item that stands at row p of no list has the same mark after p rows as after p - 1
 --     row-met                the item at row p of a list is met then
+--     mark-least             a met item's mark is above 0
 --     row-mark-most          within row p no mark is above that after the row
 --     begun-start, begun-next, begun-whole       the marks before the first list, with one list more, after all of them
 -- Assumes nothing.
@@ -51,6 +52,10 @@ module _ (v : View) (p d : ℕ) where
       let found = some-found (λ i. leb (place i) (p - 1)) (v .m) y in
       some-hit (λ i. leb (place i) p) (v .m) (found .0) (found .1)
       (le-leb (place (found .0)) p (omega (arith, leb-true (place (found .0)) (p - 1) (found .2))))
+
+  pub mark-least : metOf v p d ≡ true → 1 ≤ markOf v p d
+  unfolding markOf
+  mark-least y = rw y (omega arith)
 
   mark-rises : markOf v (p - 1) d ≤ markOf v p d
   unfolding markOf

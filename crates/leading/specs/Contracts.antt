@@ -1,10 +1,11 @@
 -- The records that the contracts of `leading` cite.
 --     Led            the k greatest of n marks, falling: above any bar stand as many of them as marks do, or all k
---     Leading        each item's mark after p rows, and the k greatest of them
+--     Leading        each item's mark after p rows, the k greatest of them, and the items met
 --     itemAt, Rowed  the item at row p of a list; what these items are
 --     ReadableRow    what reading a row asks, apart from the marks
 --     SeatBehind     where a value stands among falling ones
 --     Raised         of any marks, the k greatest once one of them is raised
+--     Joined         of any marks, the items met once one of them has a mark
 --     stands, rowMark, Begun     an item stands at row p of one of the first i lists; its mark, and every item's, once these lists' row p is read
 -- Assumes nothing.
 use mathlib.Core.Path.{_≡_}
@@ -14,7 +15,7 @@ use Prim.Native.Nat.{ℕ, suc, _+_, _-_, _*_, _≤_, _<_, min}
 use lib.Dec.{eqb}
 use lib.ListN.{length, getD, set}
 use Rattle.model.specs.Words.{someBelow}
-use Rattle.halting.specs.Contracts.{View, Legible, markOf, Marked, reachOf}
+use Rattle.halting.specs.Contracts.{View, Legible, markOf, Marked, reachOf, Gathered}
 
 -- The first k of `tops` are the k greatest of n marks, falling
 pub record Led (n k : ℕ) (marks tops : List ℕ) : Type 0 where
@@ -22,10 +23,11 @@ pub record Led (n k : ℕ) (marks tops : List ℕ) : Type 0 where
   pub falling : (j : ℕ) → suc j < k → getD tops (suc j) 0 ≤ getD tops j 0
   pub counts : (bar : ℕ) → reachOf k tops bar ≡ min k (reachOf n marks bar)
 
--- After p rows: each item's mark, and the k greatest of them
-pub record Leading (v : View) (p k : ℕ) (marks tops : List ℕ) : Type 0 where
+-- After p rows: each item's mark, the k greatest of them, and the items met, `count` of them
+pub record Leading (v : View) (p k : ℕ) (marks tops met : List ℕ) (count : ℕ) : Type 0 where
   pub marked : Marked v p marks
   pub led : Led (v .n) k marks tops
+  pub gathered : Gathered (v .n) marks met count
 
 -- the item at row p of list i
 abbrev pub itemAt : View → List ℕ → ℕ → ℕ → ℕ
@@ -54,6 +56,12 @@ pub record SeatBehind (x end : ℕ) (tops : List ℕ) (r : ℕ) : Type 0 where
 pub record Raised (k old new : ℕ) (tops tops′ : List ℕ) : Type 0 where
   pub raises : (n d : ℕ) (marks : List ℕ) → n ≤ length marks → d < n → getD marks d 0 ≡ old → old ≤ new
       → Led n k marks tops → Led n k (set marks d new) tops′
+
+-- Of any n marks of which item d's is `old`, the items met once it is `new`
+pub record Joined (d old count : ℕ) (met : List ℕ) (r : ℕ) (met′ : List ℕ) : Type 0 where
+  pub joins : (n new : ℕ) (marks : List ℕ) → n ≤ length marks → d < n → getD marks d 0 ≡ old → 1 ≤ new
+      → Gathered n marks met count → Gathered n (set marks d new) met′ r
+  pub grows : count ≤ r
 
 -- ---- a row, list by list
 -- item d stands at row p of one of the first i lists

@@ -1,5 +1,5 @@
-// The k greatest of the items' marks, kept as rows are read and marks rise: the least of them tells the
-// k-th low, and no item but those of the row is looked at for it.
+// What is kept as rows are read and marks rise: the k greatest of the marks, of which the least tells the
+// k-th low, and the items met in the order in which they were. No item but those of the row is looked at for it.
 use entries::wide;
 use meeting::bound;
 use meeting::sliding::slide_scores;
@@ -7,8 +7,8 @@ ghost use mathlib.Core.Bool.{true};
 ghost use mathlib.Core.Path.{_≡_};
 ghost use Prim.Native.Nat.{_+_, _-_, _≤_, _<_};
 ghost use lib.ListN.{length, getD};
-ghost use Rattle.halting.specs.Contracts.{view, metOf, markOf, Legible};
-ghost use Rattle.leading.specs.Contracts.{Led, Leading, ReadableRow, SeatBehind, Raised, Begun};
+ghost use Rattle.halting.specs.Contracts.{view, metOf, markOf, Legible, Gathered};
+ghost use Rattle.leading.specs.Contracts.{Led, Leading, ReadableRow, SeatBehind, Raised, Joined, Begun};
 
 // Behind how many of the first `end` entries x stands: the walk is from the last of them to the front, up
 // to one that is not less.
@@ -62,11 +62,25 @@ fn mark(
     low + 1
 }
 
-// The item that stands at row p of list i: its mark and the k greatest.
+// Item d, whose mark was `old`, among the items met, and how many there are then: a mark of 0 says that it is new.
+fn gather(d: u16, old: u32, count: usize, met: &mut [u16]) -> usize
+    requires { ⌜ (old ≡ 0 → count < length (now met)) ⌝ }
+    ensures { λ r. ⌜ Joined d old count (now (met .entry)) r (now (met .exit)) ⌝ }
+{
+    if 0 < old {
+        return count;
+    }
+    met[count] = d;
+    count + 1
+}
+
+// The item that stands at row p of list i: its mark, the k greatest and the items met, of which the answer
+// says how many there are.
 fn read_entry(
     i: usize,
     p: usize,
     k: usize,
+    count: usize,
     m: usize,
     n: usize,
     rule: u8,
@@ -76,27 +90,33 @@ fn read_entry(
     work: &[u16],
     marks: &mut [u32],
     tops: &mut [u32],
-)
+    met: &mut [u16],
+) -> usize
     requires { ⌜ ReadableRow (view m n rule weights (now scores) (now work)) (now items) p k × (i < m)
         × Begun (view m n rule weights (now scores) (now work)) (now items) p i (now marks)
-        × Led n k (now marks) (now tops) ⌝ }
-    ensures { λ _. ⌜ Begun (view m n rule weights (now (scores .entry)) (now (work .entry)))
-        (now (items .entry)) p (i + 1) (now (marks .exit)) × Led n k (now (marks .exit)) (now (tops .exit)) ⌝ }
+        × Led n k (now marks) (now tops) × Gathered n (now marks) (now met) count ⌝ }
+    ensures { λ r. ⌜ Begun (view m n rule weights (now (scores .entry)) (now (work .entry)))
+        (now (items .entry)) p (i + 1) (now (marks .exit)) × Led n k (now (marks .exit)) (now (tops .exit))
+        × Gathered n (now (marks .exit)) (now (met .exit)) r × (count ≤ r) ⌝ }
 {
     let base = i * n;
     let end = base + p;
     let at = end - 1;
-    let d = wide(items[at]);
+    let item = items[at];
+    let d = wide(item);
     let new = mark(d, p, m, n, rule, weights, scores, work);
     let old = marks[d];
     marks[d] = new;
     raise(k, old, new, tops);
+    gather(item, old, count, met)
 }
 
-// Row p: the marks after p - 1 rows, and the k greatest of them, become those after p rows.
+// Row p: the marks after p - 1 rows, the k greatest of them and the items met become those after p rows. The
+// answer is how many items are met.
 pub fn read_row(
     p: usize,
     k: usize,
+    count: usize,
     m: usize,
     n: usize,
     rule: u8,
@@ -106,18 +126,22 @@ pub fn read_row(
     work: &[u16],
     marks: &mut [u32],
     tops: &mut [u32],
-)
+    met: &mut [u16],
+) -> usize
     requires { ⌜ ReadableRow (view m n rule weights (now scores) (now work)) (now items) p k
-        × Leading (view m n rule weights (now scores) (now work)) (p - 1) k (now marks) (now tops) ⌝ }
-    ensures { λ _. ⌜ Leading (view m n rule weights (now (scores .entry)) (now (work .entry))) p k
-        (now (marks .exit)) (now (tops .exit)) ⌝ }
+        × Leading (view m n rule weights (now scores) (now work)) (p - 1) k (now marks) (now tops) (now met)
+        count ⌝ }
+    ensures { λ r. ⌜ Leading (view m n rule weights (now (scores .entry)) (now (work .entry))) p k
+        (now (marks .exit)) (now (tops .exit)) (now (met .exit)) r × (count ≤ r) ⌝ }
 {
+    let mut gathered = count;
     let mut i = 0;
     while i < m {
-        read_entry(
+        gathered = read_entry(
             i,
             p,
             k,
+            gathered,
             m,
             n,
             rule,
@@ -127,7 +151,9 @@ pub fn read_row(
             work,
             marks,
             tops,
+            met,
         );
         i += 1;
     }
+    gathered
 }

@@ -10,7 +10,7 @@
 use mathlib.Core.Path.{_≡_, refl, sym, ap, _∙_}
 use mathlib.Core.Bool.{Bool, true, false, cond, _&&_, _||_, true≢false, false≢true}
 use mathlib.Core.List.{List, [], _++_, map}
-use Prim.Native.Nat.{ℕ, zero, suc, _+_, _-_, _*_, _≤_, _<_}
+use Prim.Native.Nat.{ℕ, suc, _+_, _-_, _*_, _≤_, _<_}
 use native.Mathlib.Nat.{suc-mul}
 use native.Mathlib.Numerals.{add-one}
 use native.Mathlib.Omega.{arith}
@@ -21,7 +21,7 @@ use borrow.Author.Tests.{eqb-true, eqb-false, eq-eqb, ne-eqb, leb-true, ltb-true
 use Rattle.model.specs.Words.{first, lastOf, over}
 use Rattle.model.specs.Given.{Poses, Query, score, overall, total}
 use Rattle.model.specs.Accesses.{sorted, direct, random, sameKind, rowTA, rowsTA, rounds, times, met, best, made, tally}
-use Rattle.model.specs.Searches.{Search, ahead, ranked, order, kept, stops, rows, threshold, byScore}
+use Rattle.model.specs.Searches.{Search, ahead, order, kept, stops, rows, threshold, byScore}
 use Rattle.laws.specs.Tests.{by-cases, first-is, first-most, first-least, first-passes}
 use Rattle.laws.specs.Lists.{table-same, table-zeros, over-at, map-at}
 use Rattle.laws.specs.Accepted.{Valid}
@@ -31,6 +31,7 @@ use Rattle.laws.specs.Visits.{best-most, best-reaches, best-wider, visited-more
 use Rattle.laws.specs.Looked.{Looked, looked-own, looked-random, looked-other}
 use Rattle.laws.specs.Rows.{rows-looked, rows-covers}
 use Rattle.laws.specs.Rounds.{none-met, rounds-turns, rounds-covers}
+use Rattle.laws.specs.Ranking.{ranked-none}
 use Rattle.laws.specs.Kept.{last-at}
 use Rattle.laws.specs.Overall.{joined-same}
 use Rattle.entries.specs.Contracts.{poses}
@@ -202,14 +203,9 @@ row-is s k r p some most before ends =
         omega (arith, ltb-false (first (stops s k r) (s .n - 1) 1) p z))
 
 -- ---- before the first row
-none-ranked : (before : ℕ → ℕ → Bool) (t : ℕ → Bool) (n : ℕ) → ((d : ℕ) → t d ≡ false) → ranked before t n ≡ []
-unfolding ranked
-none-ranked before t zero h = refl
-none-ranked before t (suc n) h = rw (h n) (none-ranked before t n h)
-
 none-kept : (s : Poses) (q : Query) (k : ℕ) → take k (ranking s q []) ≡ []
 unfolding ranking
-none-kept s q k = ap (take k) (none-ranked (ahead (total s q) (total s q)) (met s []) (s .n) (none-met s)) ∙ take-nil k
+none-kept s q k = ap (take k) (ranked-none (ahead (total s q) (total s q)) (met s []) (s .n) (none-met s)) ∙ take-nil k
 
 none-tallied : (s : Poses) → tally s [] ≡ replicate (s .m * s .n) 0
 unfolding tally

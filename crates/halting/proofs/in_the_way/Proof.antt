@@ -1,14 +1,14 @@
--- `halting::in_the_way` meets its contract: an item that is not met has the row's threshold for its high, and one whose low reaches
--- the bar is never in the way.
+-- `halting::in_the_way` meets its contract: an item whose low reaches the bar is never in the way, and any other is where its high is
+-- above it.
 -- Assumes nothing.
-use mathlib.Core.Path.{_≡_, sym, ap, _∙_}
+use mathlib.Core.Path.{_≡_, sym, _∙_}
 use mathlib.Core.Bool.{true, not, and-true, and-false}
 use Prim.Native.Nat.{ℕ, _≤_}
 use native.Mathlib.Omega.{arith}
 use lib.Dec.{ltb}
 use borrow.Author.Tests.{le-leb, lt-leb}
 use Rattle.halting.specs.Contracts.{View, view, boundOf, markOf, Legible, passesOf, at-row, bound-asks}
-use Rattle.halting.specs.Marks.{blocks-not, unmet-high}
+use Rattle.halting.specs.Marks.{blocks-not}
 use Rattle.halting.proofs.in_the_way.Statement.{statement}
 use Rattle.halting.proofs.in_the_way.Tie as tie
 
@@ -23,32 +23,23 @@ returns c =
     let at-start = c .before .before .before in
     let a = at-start .args in
     let v = view (a .m) (a .n) (a .rule) (a .weights .now) (a .scores .now) (a .work .now) in
-    let none : markOf v (a .p) (a .d) ≡ 0 = sym (at-start .pre .2) ∙ c .if1 .taken in
-    ap (ltb (a .bar)) (at-start .pre .3 ∙ sym (unmet-high (at-start .pre .0) (a .d) none))
-    ∙ low-under (at-start .pre .0) (a .bar) (a .d) (omega (arith, none))
-
-returns-2 : tie.Need-returns-2
-returns-2 c =
-    let at-start = c .before .before .before .before in
-    let a = at-start .args in
-    let v = view (a .m) (a .n) (a .rule) (a .weights .now) (a .scores .now) (a .work .now) in
-    sym (rw (lt-leb (markOf v (a .p) (a .d)) (a .bar) (omega (arith, at-start .pre .2, c .if2 .taken)))
+    sym (rw (lt-leb (markOf v (a .p) (a .d)) (a .bar) (omega (arith, at-start .pre .2, c .if1 .taken)))
     (and-false (ltb (a .bar) (boundOf v true (a .p) (a .d)))))
     ∙ blocks-not (at-start .pre .0) (a .bar) (a .d)
 
 bound-requires : tie.Need-bound-requires
 bound-requires c κs =
-    let at-start = c .before .before .before .before in
+    let at-start = c .before .before .before in
     let read = at-start .pre .0 in
     bound-asks (at-start .args .d) (at-row read _ (omega (arith, read .row-least, read .row-most)) (omega (arith, read .row-most))) (at-start .pre .1)
 
-returns-3 : tie.Need-returns-3
+returns-2 : tie.Need-returns-2
 unfolding boundOf
-returns-3 c =
-    let at-start = c .before .before .before .before .before in
-    let else2 = c .before in
+returns-2 c =
+    let at-start = c .before .before .before .before in
+    let else1 = c .before in
     rw (c .bound .ensures) (low-under (at-start .pre .0) (at-start .args .bar) (at-start .args .d)
-    (omega (arith, at-start .pre .2, else2 .if2 .left)))
+    (omega (arith, at-start .pre .2, else1 .if1 .left)))
 
 pub in-the-way-spec : {M : Type 1} → statement M
-in-the-way-spec = tie.close (tie.spec returns returns-2 bound-requires returns-3)
+in-the-way-spec = tie.close (tie.spec returns bound-requires returns-2)

@@ -2,33 +2,38 @@
 -- Assumes nothing.
 use borrow.Author.Needs.{needs}
 use mathlib.Core.Path.{_≡_}
+use Prim.Native.Nat.{_≤_, _<_}
 use native.Mathlib.Omega.{arith}
 use Rattle.halting.specs.Contracts.{boundOf, bound-asks}
 use Rattle.ranking.proofs.Items.{considered-in, considered-out}
 use Rattle.ranking.proofs.consider.Statement.{statement}
 use Rattle.ranking.proofs.consider.Tie as tie
 
+wide-requires : tie.Need-wide-requires
+wide-requires c κs = search needs
+
+-- it is an item
+small : (c : tie.After-wide) → c .wide .result < c .before .before .before .before .before .before .before .args .n
+small c = rw (c .wide .ensures) (c .before .before .before .before .before .before .before .pre .2)
+
 mul-own : tie.Need-mul-own
-mul-own c = search needs
+mul-own c = omega (arith, small c, c .before .before .before .before .before .before .before .pre .0 .n-most)
 
 shared-slice-read-own : tie.Need-shared-slice-read-own
-shared-slice-read-own c = search needs
+shared-slice-read-own c = omega (arith, small (c .before), c .before .before .before .before .before .before .before .before .pre .1 .marks-long)
 
 returns : tie.Need-returns
 returns c =
-    let asked = c .before .before .before .before .before .before .before .before .pre in
-    considered-out (asked .0) (asked .1) (asked .2) (omega (arith, c .if1 .taken))
+    let asked = c .before .before .before .before .before .before .before .before .before .pre in
+    considered-out (asked .0) (asked .1) (asked .2) (omega (arith, rw (c .before .before .wide .ensures) at (c .if1 .taken)))
 
 bound-requires : tie.Need-bound-requires
 bound-requires c κs =
-    let at-start = c .before .before .before .before .before .before .before .before in
-    bound-asks (at-start .args .d) (at-start .pre .0) (at-start .pre .2)
-
-narrow-requires : tie.Need-narrow-requires
-narrow-requires c κs = search needs
+    let after-wide = c .before .before in
+    bound-asks (after-wide .wide .result) (c .before .before .before .before .before .before .before .before .before .pre .0) (small after-wide)
 
 sub-keep : tie.Need-sub-keep
-sub-keep c = search needs
+sub-keep c = omega (arith, c .before .if1 .left, c .before .before .before .before .before .before .before .before .before .before .pre .3)
 
 keep-requires : tie.Need-keep-requires
 keep-requires c κs = search needs
@@ -45,25 +50,20 @@ same-length-3 c = search needs
 returns-2 : tie.Need-returns-2
 unfolding boundOf
 returns-2 c =
-    let at-start = c .before .before .before .before .before .before .before .before .before .before .before .before .before .before .before .before .before .before .before .before in
-    let not-less = c .before .before .before .before .before .before .before .before .before .before .before .before in
-    let after-bound = c .before .before .before .before .before .before .before .before .before .before .before in
-    let after-narrow = c .before .before .before .before .before .before .before .before .before .before in
-    let after-keep = c .before .before .before .before .before .before in
-    let asked = at-start .pre in
-    let item : after-narrow .narrow .result ≡ at-start .args .d = after-narrow .narrow .ensures in
-    considered-in (asked .0) (asked .1) (asked .2) (omega (arith, not-less .if1 .left, asked .3)) (after-bound .bound .ensures)
-    (rw item at (after-keep .keep .ensures))
+    let asked = c .before .before .before .before .before .before .before .before .before .before .before .before .before .before .before .before .before .before .before .before .pre in
+    let item-is = c .before .before .before .before .before .before .before .before .before .before .before .before .before .wide .ensures in
+    considered-in (asked .0) (asked .1) (asked .2) (omega (arith, rw item-is at (c .before .before .before .before .before .before .before .before .before .before .before .if1 .left), asked .3))
+    (rw item-is at (c .before .before .before .before .before .before .before .before .before .before .bound .ensures)) (rw item-is at (c .before .before .before .before .before .before .keep .ensures))
 
 pub consider-spec : {M : Type 1} → statement M
 consider-spec =
     tie.close
     (tie.spec
+    wide-requires
     mul-own
     shared-slice-read-own
     returns
     bound-requires
-    narrow-requires
     sub-keep
     keep-requires
     same-length
