@@ -1,6 +1,6 @@
 -- What the items asked tell of NRA's test.
 --     stuck-at, free-at      the test fails, and an entry is told; it holds, and n is told
---     asked-at, asked-none   one item met is in the way; none is: none from one on, and none in front of it
+--     found-in-the-way, none-in-the-way      one item met is in the way; none is: none from one on, and none in front of it
 --     all-clear              no item is in the way, met or not
 -- Assumes nothing.
 use mathlib.Core.Path.{_≡_, sym, _∙_}
@@ -15,7 +15,7 @@ use Rattle.laws.specs.Tests.{by-cases, some-found}
 use Rattle.halting.specs.Contracts.{View, Legible, Marked, Gathered, inFirst, markOf, haltsOf, passesOf, unmetOf, Blocking}
 use Rattle.halting.specs.Gathering.{gathered-short}
 use Rattle.halting.specs.Marks.{unmet-passes}
-use Rattle.ending.specs.Contracts.{Asked, Obstructed}
+use Rattle.ending.specs.Contracts.{InTheWay, Obstructed}
 
 pub stuck-at : (v : View) (k p count r : ℕ) → r < v .n → r ≤ count → haltsOf v k p ≡ false → Obstructed v k p count r
 stuck-at v k p count r less within fails =
@@ -26,12 +26,12 @@ free-at v k p count holds =
     record { most = omega arith; within = λ h. absurd (omega arith); stuck = λ h. absurd (omega arith); free = λ _. holds }
 
 module _ {v : View} {p bar count : ℕ} {met : List ℕ} where
-  pub asked-at : {from to r : ℕ} → to ≤ count → Blocking v p bar met from to r → r < to → Asked v p bar met count r
-  asked-at small found less = record { in-the-way = λ _. found .in-the-way less; none-there = λ h. absurd (omega arith) }
+  pub found-in-the-way : {from to r : ℕ} → to ≤ count → Blocking v p bar met from to r → r < to → InTheWay v p bar met count r
+  found-in-the-way small found less = record { in-the-way = λ _. found .in-the-way less; none-there = λ h. absurd (omega arith) }
 
-  pub asked-none : {at behind front : ℕ} → Blocking v p bar met at count behind → count ≤ behind → Blocking v p bar met 0 at front → at ≤ front
-      → Asked v p bar met count count
-  asked-none {at} after all before rest =
+  pub none-in-the-way : {at behind front : ℕ} → Blocking v p bar met at count behind → count ≤ behind → Blocking v p bar met 0 at front → at ≤ front
+      → InTheWay v p bar met count count
+  none-in-the-way {at} after all before rest =
       record {
         in-the-way = λ h. absurd (omega arith);
         none-there = λ _ j h.

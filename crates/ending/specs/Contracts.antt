@@ -1,6 +1,6 @@
 -- The records that the contracts of `ending` cite.
 --     Kth, kth-of    the k-th greatest mark, as a bar; it is the last of the k greatest
---     Asked          one of the items met that stands in the way, or none
+--     InTheWay       one of the items met that stands in the way, or none
 --     Obstructed     what keeps NRA from stopping, or n
 --     Sought         what the search for the row asks
 --     Halted         the row after which NRA stops
@@ -25,7 +25,7 @@ pub kth-of : {n k : ℕ} {marks tops : List ℕ} → Led n k marks tops → 1 �
 kth-of led some = record { few = led-few led some; barred = led-bar led some }
 
 -- The item at r stands in the way, or r is `count`, and then none of those met does
-pub record Asked (v : View) (p bar : ℕ) (met : List ℕ) (count r : ℕ) : Type 0 where
+pub record InTheWay (v : View) (p bar : ℕ) (met : List ℕ) (count r : ℕ) : Type 0 where
   pub in-the-way : r < count → passesOf v p bar (getD met r 0) ≡ false
   pub none-there : count ≤ r → (j : ℕ) → j < count → passesOf v p bar (getD met j 0) ≡ true
 

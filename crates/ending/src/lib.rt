@@ -14,7 +14,7 @@ ghost use lib.ListN.{replicate};
 ghost use Rattle.meeting.specs.Contracts.{Limited, limitAt};
 ghost use Rattle.halting.specs.Contracts.{view, Legible, Marked, Gathered};
 ghost use Rattle.leading.specs.Contracts.{Leading};
-ghost use Rattle.ending.specs.Contracts.{Asked, Kth, Obstructed, Sought, Stopped};
+ghost use Rattle.ending.specs.Contracts.{InTheWay, Kth, Obstructed, Sought, Stopped};
 
 // Some item is not met after p rows, and its high, which is the row's threshold, is above the bar.
 fn unmet_in_the_way(
@@ -56,7 +56,7 @@ fn met_in_the_way(
     requires { ⌜ Legible (view m n rule weights (now scores) (now work)) p
         × Marked (view m n rule weights (now scores) (now work)) p (now marks)
         × Gathered n (now marks) (now met) count × (at ≤ count) ⌝ }
-    ensures { λ r. ⌜ Asked (view m n rule weights (now (scores .entry)) (now (work .entry))) p bar
+    ensures { λ r. ⌜ InTheWay (view m n rule weights (now (scores .entry)) (now (work .entry))) p bar
         (now (met .entry)) count r ⌝ }
 {
     let behind = blocker(

@@ -5,7 +5,7 @@
 --     ReadableRow    what reading a row asks, apart from the marks
 --     SeatBehind     where a value stands among falling ones
 --     Raised         of any marks, the k greatest once one of them is raised
---     Joined         of any marks, the items met once one of them has a mark
+--     NewlyGathered  of any marks, the items met once one of them has a mark
 --     stands, rowMark, Begun     an item stands at row p of one of the first i lists; its mark, and every item's, once these lists' row p is read
 -- Assumes nothing.
 use mathlib.Core.Path.{_≡_}
@@ -58,8 +58,8 @@ pub record Raised (k old new : ℕ) (tops tops′ : List ℕ) : Type 0 where
       → Led n k marks tops → Led n k (set marks d new) tops′
 
 -- Of any n marks of which item d's is `old`, the items met once it is `new`
-pub record Joined (d old count : ℕ) (met : List ℕ) (r : ℕ) (met′ : List ℕ) : Type 0 where
-  pub joins : (n new : ℕ) (marks : List ℕ) → n ≤ length marks → d < n → getD marks d 0 ≡ old → 1 ≤ new
+pub record NewlyGathered (d old count : ℕ) (met : List ℕ) (r : ℕ) (met′ : List ℕ) : Type 0 where
+  pub gathers : (n new : ℕ) (marks : List ℕ) → n ≤ length marks → d < n → getD marks d 0 ≡ old → 1 ≤ new
       → Gathered n marks met count → Gathered n (set marks d new) met′ r
   pub grows : count ≤ r
 

@@ -8,7 +8,7 @@ ghost use mathlib.Core.Path.{_≡_};
 ghost use Prim.Native.Nat.{_+_, _-_, _≤_, _<_};
 ghost use lib.ListN.{length, getD};
 ghost use Rattle.halting.specs.Contracts.{view, metOf, markOf, Legible, Gathered};
-ghost use Rattle.leading.specs.Contracts.{Led, Leading, ReadableRow, SeatBehind, Raised, Joined, Begun};
+ghost use Rattle.leading.specs.Contracts.{Led, Leading, ReadableRow, SeatBehind, Raised, NewlyGathered, Begun};
 
 // Behind how many of the first `end` entries x stands: the walk is from the last of them to the front, up
 // to one that is not less.
@@ -65,7 +65,7 @@ fn mark(
 // Item d, whose mark was `old`, among the items met, and how many there are then: a mark of 0 says that it is new.
 fn gather(d: u16, old: u32, count: usize, met: &mut [u16]) -> usize
     requires { ⌜ (old ≡ 0 → count < length (now met)) ⌝ }
-    ensures { λ r. ⌜ Joined d old count (now (met .entry)) r (now (met .exit)) ⌝ }
+    ensures { λ r. ⌜ NewlyGathered d old count (now (met .entry)) r (now (met .exit)) ⌝ }
 {
     if 0 < old {
         return count;

@@ -2,7 +2,7 @@
 -- Assumes nothing.
 use native.Mathlib.Omega.{arith}
 use Rattle.halting.specs.Gathering.{gathered-most, gathered-named}
-use Rattle.ending.proofs.Obstacles.{asked-at, asked-none}
+use Rattle.ending.proofs.Obstacles.{found-in-the-way, none-in-the-way}
 use Rattle.ending.proofs.met_in_the_way.Statement.{statement}
 use Rattle.ending.proofs.met_in_the_way.Tie as tie
 
@@ -12,7 +12,7 @@ blocker-requires c κs =
     (asked .0, asked .1, gathered-named (asked .2) (c .before .before .before .before .args .count) (omega arith), asked .3, gathered-most (asked .2))
 
 returns : tie.Need-returns
-returns c = asked-at (omega arith) (c .before .blocker .ensures) (c .if1 .taken)
+returns c = found-in-the-way (omega arith) (c .before .blocker .ensures) (c .if1 .taken)
 
 blocker-requires-2 : tie.Need-blocker-requires-2
 blocker-requires-2 c κs =
@@ -25,11 +25,11 @@ blocker-requires-2 c κs =
     )
 
 returns-2 : tie.Need-returns-2
-returns-2 c = asked-at (c .before .before .before .before .before .before .before .before .pre .3) (c .before .blocker2 .ensures) (c .if2 .taken)
+returns-2 c = found-in-the-way (c .before .before .before .before .before .before .before .before .pre .3) (c .before .blocker2 .ensures) (c .if2 .taken)
 
 returns-3 : tie.Need-returns-3
 returns-3 c =
-    asked-none (c .before .before .before .blocker .ensures) (omega (arith, c .before .before .if1 .left)) (c .before .blocker2 .ensures)
+    none-in-the-way (c .before .before .before .blocker .ensures) (omega (arith, c .before .before .if1 .left)) (c .before .blocker2 .ensures)
     (omega (arith, c .if2 .left))
 
 pub met-in-the-way-spec : {M : Type 1} → statement M

@@ -10,7 +10,7 @@ use Rattle.leading.proofs.gather.Tie as tie
 returns : tie.Need-returns
 returns c =
     record {
-      joins = λ n new marks long small is some g. gathered-again long small some g (omega (arith, is, c .if1 .taken));
+      gathers = λ n new marks long small is some g. gathered-again long small some g (omega (arith, is, c .if1 .taken));
       grows = omega arith;
     }
 
@@ -29,7 +29,7 @@ same-length c = search needs
 returns-2 : tie.Need-returns-2
 returns-2 c =
     record {
-      joins = λ n new marks long small is some g.
+      gathers = λ n new marks long small is some g.
           rw (add-one (c .before .args .count)) (gathered-new long small some g (omega (arith, is, c .if1 .left)));
       grows = omega arith;
     }

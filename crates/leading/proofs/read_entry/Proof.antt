@@ -129,7 +129,7 @@ returns c =
       stored,
       after-raise .raise .ensures .raises (a .n) d marks (begun .marks-long) small refl rises (at-start .pre .3),
       rw item-is
-          (after-gather .gather .ensures .joins (a .n) (after-mark .mark .result) marks (begun .marks-long) (rw item-is at small) known some
+          (after-gather .gather .ensures .gathers (a .n) (after-mark .mark .result) marks (begun .marks-long) (rw item-is at small) known some
           (at-start .pre .4)),
       after-gather .gather .ensures .grows,
     )
