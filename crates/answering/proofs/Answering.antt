@@ -21,9 +21,10 @@ use Rattle.running.specs.Contracts.{searchAt, Did, Runs}
 use Rattle.admission.specs.Passing.{TestsPassed}
 use Rattle.meeting.specs.declared.Done.{Done}
 use Rattle.meeting.specs.Contracts.{queryWith, Readable, Ran}
-use Rattle.answering.specs.declared.Answer.{Answer}
+use Rattle.answers.specs.declared.Answer.{Answer}
 use Rattle.testing.specs.Contracts.{Decoded}
-use Rattle.answering.specs.Answered.{RefusedBy, Tells, Searched}
+use Rattle.answers.specs.Contracts.{RefusedBy, Tells}
+use Rattle.answering.specs.Answered.{Searched}
 use Rattle.answering.specs.Shortlists.{items-of, lows-of, highs-of}
 use Rattle.admission.specs.Shapes.{numbered-search}
 

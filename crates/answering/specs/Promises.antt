@@ -16,7 +16,7 @@ use Rattle.model.specs.Accesses.{sorted, direct, random, made, tally}
 use Rattle.model.specs.Refusals.{Verdict, accepted, refused, Lent, posesOf, queryOf, searchVerdict}
 use Rattle.model.specs.Answers.{Found, found, foundAfter, told, searchOf, answer, answering, written, slices, slicesWith}
 use Rattle.laws.specs.Verdicts.{told-zero}
-use Rattle.answering.specs.declared.Answer.{Answer}
+use Rattle.answers.specs.declared.Answer.{Answer}
 use Rattle.meeting.specs.Contracts.{Ran}
 use Rattle.answering.specs.Answered.{Searched}
 use Rattle.admission.specs.Shapes.{numbered-search, Accepts, accepts}

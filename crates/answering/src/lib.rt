@@ -1,62 +1,8 @@
-// The answer of a search, and the search of a number: all tests, the run, the answer.
-use lists::Checked;
-use meeting::Direct;
-use meeting::Done;
-use meeting::Random;
-use meeting::Sorted;
-ghost use mathlib.Core.Path.{_≡_};
+// The search of a number: all tests, the run, the answer.
+use answers::Answer;
 ghost use Rattle.running.specs.Contracts.{searchAt};
 ghost use Rattle.admission.specs.Contracts.{lentWith};
-ghost use Rattle.answering.specs.Answered.{allTold, RefusedBy, Tells, Searched};
-
-// What a search gives back beside the slices: 0 or the number of a refusal with its list and position, the rows
-// or rounds, and the accesses by kind.
-pub struct Answer {
-    pub number: u32,
-    pub list: u32,
-    pub position: u32,
-    pub rows: u32,
-    pub sorted: Sorted,
-    pub direct: Direct,
-    pub random: Random,
-}
-
-// All accesses of a search, of whatever kind: the one place where the kinds are joined.
-pub fn total(a: Answer) -> u64
-    ensures { λ r. ⌜ r ≡ allTold a ⌝ }
-{
-    (a.sorted.0 as u64) + (a.direct.0 as u64) + (a.random.0 as u64)
-}
-
-// All numbers but the refusal's own are 0.
-fn refused(c: Checked) -> Answer
-    ensures { λ r. ⌜ RefusedBy c r ⌝ }
-{
-    Answer {
-        number: c.number,
-        list: c.list,
-        position: c.position,
-        rows: 0,
-        sorted: Sorted(0),
-        direct: Direct(0),
-        random: Random(0),
-    }
-}
-
-// What a search that is not refused has done.
-fn found(d: Done) -> Answer
-    ensures { λ r. ⌜ Tells d r ⌝ }
-{
-    Answer {
-        number: 0,
-        list: 0,
-        position: 0,
-        rows: d.rows,
-        sorted: Sorted(d.sorted.0),
-        direct: Direct(d.direct.0),
-        random: Random(d.random.0),
-    }
-}
+ghost use Rattle.answering.specs.Answered.{Searched};
 
 // The search of a number (`running::TA`, `BPA`, `BPA2`; any other is NRA): the tests, then the run.
 pub fn search(
@@ -94,7 +40,7 @@ pub fn search(
         work,
     );
     if tested.number != 0 {
-        return refused(tested);
+        return answers::refused(tested);
     }
     let numbers = testing::decode(m, weights);
     let done = running::run(
@@ -112,5 +58,5 @@ pub fn search(
         tally,
         work,
     );
-    found(done)
+    answers::found(done)
 }

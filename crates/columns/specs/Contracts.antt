@@ -16,7 +16,7 @@ use Rattle.model.specs.Answers as model
 use Rattle.model.specs.Answers.{answer, slices}
 use Rattle.admission.specs.Contracts.{lentWith}
 use Rattle.running.specs.Contracts.{searchAt}
-use Rattle.answering.specs.declared.Answer.{Answer}
+use Rattle.answers.specs.declared.Answer.{Answer}
 use Rattle.placing.specs.declared.Place.{Place}
 use Rattle.columns.specs.declared.Kept.{Kept}
 use Rattle.placing.specs.Rows.{placeAt, onto}

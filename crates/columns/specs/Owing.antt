@@ -29,7 +29,7 @@ use Rattle.demands.specs.Promised.{promised}
 use Rattle.admission.specs.Contracts.{lentWith, shapeOf, shape-is}
 use Rattle.admission.specs.Shapes.{k-passes}
 use Rattle.running.specs.Contracts.{searchAt}
-use Rattle.answering.specs.declared.Answer.{Answer}
+use Rattle.answers.specs.declared.Answer.{Answer}
 use Rattle.answering.specs.Answered.{Searched}
 use Rattle.answering.specs.Promises.{accepted-is-zero, accepted-call, accepted-finds}
 use Rattle.answering.specs.Shortlists.{placeOf}

@@ -1,7 +1,7 @@
 // A search for lent rows, up to where they are written: its shortlist stays in columns.
+use answers::Answer;
 use placing::enough;
 use placing::lesser;
-use searches::Answer;
 ghost use mathlib.Core.Path.{_≡_};
 ghost use lib.ListN.{length, take};
 ghost use Rattle.running.specs.Contracts.{searchAt};
@@ -46,7 +46,7 @@ fn search_within(
         (now (tally .exit)) (now (work .exit)) ⌝ }
 {
     let part = lesser(room);
-    searches::search(
+    answering::search(
         which,
         m,
         n,

@@ -14,7 +14,8 @@ use Rattle.model.specs.Answers.{told}
 use Rattle.fields.specs.Contracts.{Appended}
 use Rattle.fields.specs.Appending.{appended-none, appended-is, appended-then}
 use Rattle.lines.specs.declared.Line.{Line}
-use Rattle.lines.specs.Contracts.{lineRoom, oneLine, linesTo, LineMade, Lines}
+use Rattle.wording.specs.Contracts.{lineRoom}
+use Rattle.lines.specs.Contracts.{oneLine, linesTo, LineMade, Lines}
 use Rattle.lines.specs.Alike.{Alike, alike-verdict, alike-one}
 use Rattle.lines.specs.Lines.{one-refused, told-accepted, lines-next, lines-four}
 

@@ -1,5 +1,4 @@
--- The line of an answer, and of a search.
---     refusal-written, found-written     an answer's line, by its two ways
+-- The line of a search.
 --     answer-room        what a search leaves has room for the places of its shortlist
 --     line-made          a search with its line
 -- Assumes nothing.
@@ -12,37 +11,17 @@ use Rattle.model.specs.Given.{Poses, Query}
 use Rattle.model.specs.Searches.{Search}
 use Rattle.model.specs.Refusals.{Lent, posesOf, searchVerdict}
 use Rattle.model.specs.Answers.{told, answer, answering}
-use Rattle.model.specs.Program.{line, refusedLine}
 use Rattle.laws.specs.Verdicts.{by-verdict}
-use Rattle.answering.specs.declared.Answer.{Answer}
+use Rattle.answers.specs.declared.Answer.{Answer}
 use Rattle.answering.specs.Answered.{Searched}
 use Rattle.answering.specs.Promises.{accepted-call}
-use Rattle.fields.specs.Contracts.{Appended}
 use Rattle.fields.specs.Appending.{appended-is}
 use Rattle.listing.specs.Contracts.{placesAt}
 use Rattle.lines.specs.declared.Line.{Line}
 use Rattle.running.specs.Contracts.{searchAt}
-use Rattle.lines.specs.Contracts.{nameAt, lineRoom, AnswerRoom, AnswerWritten, LineMade}
-use Rattle.lines.specs.Lines.{Held, text-refused, text-found, refused-short, found-short, answer-line}
-
-module _ (which : ℕ) (a : Answer) (k : ℕ) {picks lows highs before after : List ℕ} {at end : ℕ} (held : Held a picks lows highs) where
-  pub refusal-written : (a .number ≡ 0 → ⊥) → Appended (refusedLine (a .number) (a .list) (a .position)) before at after end
-      → AnswerWritten which a (placesAt picks lows highs k) before at after end
-  refusal-written some w =
-      record {
-        appended = appended-is (text-refused which a (placesAt picks lows highs k) some) w;
-        short = omega (arith, w .ends, refused-short held);
-      }
-
-  pub found-written : a .number ≡ 0 → k ≤ 1024 → (name : List ℕ) → name ≡ nameAt which
-      → Appended (line name (a .rows) (a .sorted .0) (a .direct .0) (a .random .0) (placesAt picks lows highs k)) before at after end
-      → AnswerWritten which a (placesAt picks lows highs k) before at after end
-  found-written none few name named w =
-      let named-line = rw named at w in
-      record {
-        appended = appended-is (text-found which a (placesAt picks lows highs k) none) named-line;
-        short = omega (arith, named-line .ends, found-short held which k few);
-      }
+use Rattle.wording.specs.Contracts.{lineRoom, AnswerRoom, AnswerWritten}
+use Rattle.lines.specs.Contracts.{LineMade}
+use Rattle.lines.specs.Lines.{answer-line}
 
 module _ {r : Poses → Query → Search} {l : Lent} {a : Answer} {picks lows highs tally work : List ℕ}
     (x : Searched r l a picks lows highs tally work) where

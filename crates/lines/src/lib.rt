@@ -1,11 +1,9 @@
 // The lines of the four searches: each search run, and its answer as text.
-use searches::Answer;
-ghost use mathlib.Core.Path.{_≡_};
 ghost use Prim.Native.Nat.{_+_, _*_, _≤_};
 ghost use lib.ListN.{length};
 ghost use Rattle.admission.specs.Contracts.{lentWith};
-ghost use Rattle.listing.specs.Contracts.{placesAt};
-ghost use Rattle.lines.specs.Contracts.{allNames, nameAt, lineRoom, AnswerRoom, AnswerWritten, LineMade, Lines};
+ghost use Rattle.wording.specs.Contracts.{lineRoom};
+ghost use Rattle.lines.specs.Contracts.{LineMade, Lines};
 
 // What the searches are asked: the sizes of the lists, the rule, and how many places.
 pub struct Asked {
@@ -19,56 +17,6 @@ pub struct Asked {
 struct Line {
     end: usize,
     number: u32,
-}
-
-// The name of a search, TA, BPA, BPA2 or NRA by its number, as a part of all four names.
-fn name(which: u8, names: &[u8]) -> &[u8]
-    requires { ⌜ now names ≡ allNames ⌝ }
-    ensures { λ r. ⌜ now r ≡ nameAt which ⌝ }
-{
-    if which == 0 {
-        return &names[0..2];
-    }
-    if which == 1 {
-        return &names[2..5];
-    }
-    if which == 2 {
-        return &names[5..9];
-    }
-    &names[9..12]
-}
-
-// The line of an answer, written from `at` on: a search's with its k places, or a refusal's.
-fn answer_line(
-    which: u8,
-    answer: Answer,
-    k: usize,
-    picks: &[u16],
-    lows: &[u32],
-    highs: &[u32],
-    out: &mut [u8],
-    at: usize,
-) -> usize
-    requires { ⌜ AnswerRoom answer k (now picks) (now lows) (now highs) (now out) at ⌝ }
-    ensures { λ r. ⌜ AnswerWritten which answer (placesAt (now (picks .entry)) (now (lows .entry))
-        (now (highs .entry)) k) (now (out .entry)) at (now (out .exit)) r ⌝ }
-{
-    if answer.number != 0 {
-        return text::refused_line(answer.number, answer.list, answer.position, out, at);
-    }
-    text::line(
-        name(which, b"TABPABPA2NRA"),
-        answer.rows,
-        answer.sorted.0,
-        answer.direct.0,
-        answer.random.0,
-        k,
-        picks,
-        lows,
-        highs,
-        out,
-        at,
-    )
 }
 
 // One search, and its line written from `at` on.
@@ -92,7 +40,7 @@ fn one_line(
         (now (lows .entry)) (now (highs .entry)) (now (tally .entry)) (now (work .entry))) (now (out .entry))
         at r (now (out .exit)) ⌝ }
 {
-    let answer = searches::search(
+    let answer = answering::search(
         which,
         asked.m,
         asked.n,
@@ -107,7 +55,7 @@ fn one_line(
         tally,
         work,
     );
-    let end = answer_line(which, answer, asked.k, picks, lows, highs, out, at);
+    let end = wording::answer_line(which, answer, asked.k, picks, lows, highs, out, at);
     Line {
         end,
         number: answer.number,

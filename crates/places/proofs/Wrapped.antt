@@ -43,9 +43,9 @@ use denote.Exit.{yes}
 use Rattle.model.specs.Given.{Poses, Query}
 use Rattle.model.specs.Searches.{Search}
 use Rattle.running.specs.Contracts.{searchAt}
-use Rattle.answering.specs.declared.Answer.{Answer}
-use Rattle.answering.proofs.Answer as Ans
-use Rattle.answering.proofs.Answer.Laws as Ans′
+use Rattle.answers.specs.declared.Answer.{Answer}
+use Rattle.answers.proofs.Answer as Ans
+use Rattle.answers.proofs.Answer.Laws as Ans′
 use Rattle.placing.specs.declared.Place.{Place}
 use Rattle.columns.specs.Contracts.{lentRows, SearchedRows}
 use Rattle.placing.proofs.Place as P

@@ -13,7 +13,7 @@ use Rattle.model.specs.Searches.{Search}
 use Rattle.model.specs.Refusals.{Verdict, accepted, refused, Lent, posesOf, searchVerdict}
 use Rattle.model.specs.Answers as model
 use Rattle.model.specs.Answers.{Found, found, searchOf, answer, answering, written, slices, slicesWith}
-use Rattle.answering.specs.declared.Answer.{Answer}
+use Rattle.answers.specs.declared.Answer.{Answer}
 use Rattle.answering.specs.Answered.{Searched}
 use Rattle.answering.specs.Promises.{answer-one-to-one}
 use Rattle.placing.specs.declared.Place.{Place}

@@ -1,8 +1,8 @@
 // The searches again, with the shortlist as rows: item, low and high of a place together.
+use answers::Answer;
 use columns::search_columns;
 pub use placing::Place;
 use placing::fill;
-use searches::Answer;
 ghost use Rattle.model.specs.Searches.{TA, BPA, BPA2, NRA};
 ghost use Rattle.running.specs.Contracts.{searchAt};
 ghost use Rattle.columns.specs.Contracts.{lentRows, SearchedRows};

@@ -10,7 +10,7 @@ use Rattle.model.specs.Words.{over}
 use Rattle.model.specs.Program.{printed}
 use Rattle.records.specs.declared.QueryRead.{QueryRead}
 use Rattle.records.specs.Contracts.{QueryIsRead}
-use Rattle.lines.specs.Contracts.{lineRoom}
+use Rattle.wording.specs.Contracts.{lineRoom}
 
 -- Room for the greatest set and the longest text: two slices for lists, five that a search writes, and one for the text
 pub record Roomy (items scores picks lows highs tally work out : List ℕ) : Type 0 where

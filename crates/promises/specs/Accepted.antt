@@ -20,7 +20,7 @@ use Rattle.laws.specs.Verdicts.{first-refusal-all}
 use Rattle.laws.specs.Accepted.{Valid}
 use Rattle.laws.specs.Opened.{searches-opened}
 use Rattle.laws.specs.Cases.{caseA, caseB, caseC, caseD, caseE, cases-opened}
-use Rattle.answering.specs.declared.Answer.{Answer}
+use Rattle.answers.specs.declared.Answer.{Answer}
 use Rattle.admission.specs.Contracts.{shape-is}
 use Rattle.answering.specs.Answered.{Searched}
 use Rattle.admission.specs.Shapes.{shape-passes, Accepts, accepts}

@@ -14,8 +14,9 @@ use Rattle.model.specs.Searches.{Search, stops}
 use Rattle.model.specs.Refusals.{Lent, posesOf, queryOf}
 use Rattle.laws.specs.Passing.{passing}
 use Rattle.laws.specs.Sums.{sum}
-use Rattle.answering.specs.declared.Answer.{Answer}
-use Rattle.answering.specs.Answered.{allTold, Searched}
+use Rattle.answers.specs.declared.Answer.{Answer}
+use Rattle.answers.specs.Contracts.{allTold}
+use Rattle.answering.specs.Answered.{Searched}
 
 -- A call of the search r over the pose set s, the query q and k, that was accepted: its answer, and the slices of shortlist and
 -- tally as it leaves them. What slices were lent, and what was in them, does not matter

@@ -24,7 +24,7 @@ use Rattle.laws.specs.Ranking.{among-at, among-found}
 use Rattle.laws.specs.Sums.{sum, made-length}
 use Rattle.demands.specs.Promise.{Owed, Promise, allMade}
 use Rattle.demands.specs.Promised.{promised}
-use Rattle.answering.specs.declared.Answer.{Answer}
+use Rattle.answers.specs.declared.Answer.{Answer}
 use Rattle.answering.specs.Promises.{Finds, accepted-finds, accepted-call}
 use Rattle.promises.specs.Calls.{Call, Returns, Delivered}
 

@@ -18,7 +18,8 @@ use Rattle.meeting.specs.declared.Done.{Done}
 use Rattle.meeting.specs.Contracts.{Ran}
 use Rattle.scored.specs.Run.{searchBy, search-ta, search-bpa, search-bpa2, RanBy}
 use Rattle.bounded.specs.Contracts.{Finished}
-use Rattle.running.specs.Contracts.{searchAt, Did, OnlySorted, Runs}
+use Rattle.completing.specs.Contracts.{OnlySorted}
+use Rattle.running.specs.Contracts.{searchAt, Did, Runs}
 
 -- the three that go by score are the first three
 named : (which : ℕ) (s : Poses) (q : Query) → which ≤ 2 → searchBy which s q ≡ searchAt which s q

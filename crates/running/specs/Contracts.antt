@@ -1,11 +1,11 @@
 -- What the run of a search promises, by the search's number.
 --     searchAt           the search of a number: 0 TA, 1 BPA, 2 BPA2, any other NRA
---     Did, OnlySorted    what a run has done: the row at which it stops and its accesses; the same for NRA, by its rows
+--     Did                what a run has done: the row at which it stops and its accesses
 --     Runs               what the run of a search promises: what it has done, and the four slices that it writes
 -- Assumes nothing.
 use mathlib.Core.Path.{_≡_}
 use mathlib.Core.List.{List}
-use Prim.Native.Nat.{ℕ, zero, suc, _*_}
+use Prim.Native.Nat.{ℕ, zero, suc}
 use Rattle.model.specs.Given.{Poses, Query}
 use Rattle.model.specs.Accesses.{sorted, direct, random, made}
 use Rattle.model.specs.Searches.{Search, rows, TA, BPA, BPA2, NRA}
@@ -25,13 +25,6 @@ pub record Did (s : Poses) (k : ℕ) (r : Search) (d : Done) : Type 0 where
   pub sorted-are : d .sorted .0 ≡ made sorted (r .accesses (d .rows))
   pub direct-are : d .direct .0 ≡ made direct (r .accesses (d .rows))
   pub random-are : d .random .0 ≡ made random (r .accesses (d .rows))
-
--- so many rows, an access of each list in each, all of them sorted
-pub record OnlySorted (m p : ℕ) (d : Done) : Type 0 where
-  pub rows-are : d .rows ≡ p
-  pub sorted-are : d .sorted .0 ≡ p * m
-  pub direct-are : d .direct .0 ≡ 0
-  pub random-are : d .random .0 ≡ 0
 
 -- The run of the search of a number: what it has done, and over what was lent the shortlist and the tally
 pub record Runs (which : ℕ) (s : Poses) (q : Query) (k : ℕ) (picks₀ lows₀ highs₀ tally₀ : List ℕ) (d : Done) (picks lows highs tally : List ℕ) : Type

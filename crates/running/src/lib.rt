@@ -1,15 +1,9 @@
 // The run of a search, once its tests are passed: TA, BPA, BPA2 or NRA, by its number.
-use meeting::Direct;
 use meeting::Done;
-use meeting::Random;
-use meeting::Sorted;
-ghost use mathlib.Core.Path.{_≡_};
 ghost use Prim.Native.Nat.{_≤_};
-ghost use lib.ListN.{length, take};
-ghost use Rattle.model.specs.Words.{over};
 ghost use Rattle.entries.specs.Contracts.{poses};
 ghost use Rattle.meeting.specs.Contracts.{queryWith, Readable, Room};
-ghost use Rattle.running.specs.Contracts.{OnlySorted, Runs};
+ghost use Rattle.running.specs.Contracts.{Runs};
 
 // The searches' numbers, in the order of their lines in the previewer.
 pub const TA: u8 = judging::TA;
@@ -19,32 +13,6 @@ pub const BPA: u8 = judging::BPA;
 pub const BPA2: u8 = judging::BPA2;
 
 pub const NRA: u8 = 3;
-
-// Whole scores are known, so the highs are the lows.
-fn repeat_lows(k: usize, lows: &[u32], highs: &mut [u32])
-    requires { ⌜ (k ≤ length (now lows)) × (k ≤ length (now highs)) ⌝ }
-    ensures { λ _. ⌜ now (highs .exit) ≡ over (take k (now (lows .entry))) (now (highs .entry)) ⌝ }
-{
-    let mut i = 0;
-    while i < k {
-        highs[i] = lows[i];
-        i += 1;
-    }
-}
-
-// NRA makes one sorted access of each list in each row, and no other.
-fn only_sorted(m: usize, rows: u32) -> Done
-    requires { ⌜ (m ≤ 8) × (rows ≤ 1024) ⌝ }
-    ensures { λ r. ⌜ OnlySorted m rows r ⌝ }
-{
-    let lists = m as u32;
-    Done {
-        rows,
-        sorted: Sorted(rows * lists),
-        direct: Direct(0),
-        random: Random(0),
-    }
-}
 
 // TA, BPA or BPA2, and the highs.
 fn by_score(
@@ -84,7 +52,7 @@ fn by_score(
         tally,
         work,
     );
-    repeat_lows(k, lows, highs);
+    completing::repeat_lows(k, lows, highs);
     done
 }
 
@@ -142,5 +110,5 @@ pub fn run(
         tally,
         work,
     );
-    only_sorted(m, rows)
+    completing::only_sorted(m, rows)
 }

@@ -1,8 +1,8 @@
 // The four searches by name, each the search of its number. That search, its answer and the answer's total are handed on, so
 // that a caller names this crate alone.
-pub use answering::Answer;
 pub use answering::search;
-pub use answering::total;
+pub use answers::Answer;
+pub use answers::total;
 ghost use Rattle.model.specs.Searches.{TA, BPA, BPA2, NRA};
 ghost use Rattle.admission.specs.Contracts.{lentWith};
 ghost use Rattle.answering.specs.Answered.{Searched};

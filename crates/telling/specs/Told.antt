@@ -10,7 +10,7 @@ use Rattle.model.specs.Given.{Poses, Query}
 use Rattle.model.specs.Searches.{Search}
 use Rattle.model.specs.Refusals.{Lent}
 use Rattle.model.specs.Answers.{Answer as AnswerValue, answer, slices}
-use Rattle.answering.specs.declared.Answer.{Answer}
+use Rattle.answers.specs.declared.Answer.{Answer}
 
 -- a search: number, list, position, rows, and the sorted, direct and random accesses
 abbrev pub searchNumbers : AnswerValue → List ℕ

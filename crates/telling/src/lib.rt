@@ -1,5 +1,5 @@
 // A search's answer told as C is told it: its numbers in a lent array.
-use searches::Answer;
+use answers::Answer;
 ghost use Rattle.running.specs.Contracts.{searchAt};
 ghost use Rattle.admission.specs.Contracts.{lentWith};
 ghost use Rattle.telling.specs.Told.{AnswerTold, SearchTold};
@@ -42,7 +42,7 @@ pub fn searched(
         (now (highs .entry)) (now (tally .entry)) (now (work .entry))) r (now (told .exit))
         (now (picks .exit)) (now (lows .exit)) (now (highs .exit)) (now (tally .exit)) (now (work .exit)) ⌝ }
 {
-    let answer = searches::search(
+    let answer = answering::search(
         which,
         m,
         n,

@@ -43,8 +43,8 @@ use denote.Triple.Walked.{says, Stays, stay-none, stay-none-slice, gave-slice, w
 use denote.Exit.{yes}
 use Rattle.model.specs.Words.{row}
 use Rattle.running.specs.Contracts.{searchAt}
-use Rattle.answering.proofs.Answer as Ans
-use Rattle.answering.proofs.Answer.Laws as Ans′
+use Rattle.answers.proofs.Answer as Ans
+use Rattle.answers.proofs.Answer.Laws as Ans′
 use Rattle.placing.specs.declared.Place.{Place}
 use Rattle.columns.specs.declared.Kept.{Kept}
 use Rattle.placing.specs.Rows.{placeAt, onto}

@@ -1,4 +1,4 @@
--- `running::repeat_lows` meets its contract. The loop's invariant: the first i lows stand over what was lent; the measure is what is
+-- `completing::repeat_lows` meets its contract. The loop's invariant: the first i lows stand over what was lent; the measure is what is
 -- left of k.
 -- Assumes nothing.
 use mathlib.Core.Path.{_≡_, refl}
@@ -6,9 +6,9 @@ use Prim.Native.Nat.{_-_, _≤_}
 use native.Mathlib.Omega.{arith}
 use lib.ListN.{length, take, length-set}
 use Rattle.model.specs.Words.{over}
-use Rattle.running.proofs.Copied.{copied-more}
-use Rattle.running.proofs.repeat_lows.Statement.{statement}
-use Rattle.running.proofs.repeat_lows.Tie as tie
+use Rattle.completing.proofs.Copied.{copied-more}
+use Rattle.completing.proofs.repeat_lows.Statement.{statement}
+use Rattle.completing.proofs.repeat_lows.Tie as tie
 
 abbrev Inv-loop : tie.InvT-loop
 Inv-loop k lows highs₀ i₀ highs i = (i ≤ k) × (length highs ≡ length highs₀) × (highs ≡ over (take i lows) highs₀)

@@ -1,11 +1,11 @@
--- `running::only_sorted` meets its contract.
+-- `completing::only_sorted` meets its contract.
 -- Assumes nothing.
 use Prim.Native.Nat.{_*_, _≤_}
 use native.Mathlib.Nat.{mul-le-mul}
 use native.Mathlib.Omega.{arith}
 use borrow.Author.Needs.{needs}
-use Rattle.running.proofs.only_sorted.Statement.{statement}
-use Rattle.running.proofs.only_sorted.Tie as tie
+use Rattle.completing.proofs.only_sorted.Statement.{statement}
+use Rattle.completing.proofs.only_sorted.Tie as tie
 
 cast-lists : tie.Need-cast-lists
 cast-lists c = search needs

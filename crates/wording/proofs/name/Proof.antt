@@ -1,10 +1,10 @@
--- `lines::name` meets its contract: each name is the part of the four, joined, where it stands.
+-- `wording::name` meets its contract: each name is the part of the four, joined, where it stands.
 -- Assumes nothing.
 use native.Mathlib.Omega.{arith}
 use borrow.Author.Needs.{needs}
-use Rattle.lines.proofs.Names.{names-long, name-first, name-second, name-third, name-fourth}
-use Rattle.lines.proofs.name.Statement.{statement}
-use Rattle.lines.proofs.name.Tie as tie
+use Rattle.wording.proofs.Names.{names-long, name-first, name-second, name-third, name-fourth}
+use Rattle.wording.proofs.name.Statement.{statement}
+use Rattle.wording.proofs.name.Tie as tie
 
 sub-result : tie.Need-sub-result
 sub-result c = search needs

@@ -1,11 +1,11 @@
--- `lines::answer_line` meets its contract: a refusal's line, or a search's, and neither is longer than its room.
+-- `wording::answer_line` meets its contract: a refusal's line, or a search's, and neither is longer than its room.
 -- Assumes nothing.
 use native.Mathlib.Omega.{arith}
 use borrow.Author.Needs.{needs}
-use Rattle.lines.specs.Lines.{Held, named-short}
-use Rattle.lines.proofs.Writing.{refusal-written, found-written}
-use Rattle.lines.proofs.answer_line.Statement.{statement}
-use Rattle.lines.proofs.answer_line.Tie as tie
+use Rattle.wording.proofs.Texts.{Held, named-short}
+use Rattle.wording.proofs.Writing.{refusal-written, found-written}
+use Rattle.wording.proofs.answer_line.Statement.{statement}
+use Rattle.wording.proofs.answer_line.Tie as tie
 
 -- the numbers fit their types
 held : (c : tie.After-struct-known) → let args = c .before .before .before .before .before .args in

@@ -6,7 +6,7 @@ use mathlib.Core.Path.{_≡_, refl, ap}
 use mathlib.Core.List.{List}
 use Prim.Native.Nat.{ℕ, zero, suc}
 use lib.ListN.{length, take, drop}
-use Rattle.lines.specs.Contracts.{allNames, nameAt}
+use Rattle.wording.specs.Contracts.{allNames, nameAt}
 
 module _ {names : List ℕ} (e : names ≡ allNames) where
   pub names-long : length names ≡ 12
