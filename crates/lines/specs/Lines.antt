@@ -13,7 +13,6 @@ use lib.ListN.{length, length-map}
 use borrow.Author.Tests.{eq-eqb, ne-eqb}
 use Rattle.model.specs.Words.{over}
 use Rattle.model.specs.Given.{Poses, Query}
-use Rattle.model.specs.Searches.{rows}
 use Rattle.model.specs.Refusals.{Verdict, accepted, refused, Lent, posesOf, queryOf, searchVerdict}
 use Rattle.model.specs.Answers.{Place, Found, found, foundAfter, told, searchOf, answering, answer, written, slices, slicesWith}
 use Rattle.model.specs.Program.{answerLine, searchLine, fourLines, printing}

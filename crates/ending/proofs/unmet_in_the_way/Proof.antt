@@ -1,7 +1,5 @@
 -- `ending::unmet_in_the_way` meets its contract.
 -- Assumes nothing.
-use mathlib.Core.Path.{_≡_}
-use Prim.Native.Nat.{_≤_, _<_}
 use native.Mathlib.Omega.{arith}
 use borrow.Author.Tests.{lt-ltb, le-ltb}
 use Rattle.ending.proofs.unmet_in_the_way.Statement.{statement}

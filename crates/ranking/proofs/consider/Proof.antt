@@ -1,8 +1,7 @@
 -- `ranking::consider` meets its contract: an item whose mark reaches the bar is put into its place, any other changes nothing.
 -- Assumes nothing.
 use borrow.Author.Needs.{needs}
-use mathlib.Core.Path.{_≡_}
-use Prim.Native.Nat.{_≤_, _<_}
+use Prim.Native.Nat.{_<_}
 use native.Mathlib.Omega.{arith}
 use Rattle.halting.specs.Contracts.{boundOf, bound-asks}
 use Rattle.ranking.proofs.Items.{considered-in, considered-out}

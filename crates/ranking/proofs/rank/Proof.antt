@@ -5,7 +5,7 @@
 use mathlib.Core.Path.{_≡_, refl, _∙_}
 use Prim.Native.Nat.{_-_, _≤_}
 use native.Mathlib.Omega.{arith}
-use lib.ListN.{length, getD}
+use lib.ListN.{length}
 use Rattle.halting.specs.Contracts.{view}
 use Rattle.halting.specs.Gathering.{gathered-most}
 use Rattle.ranking.specs.Contracts.{FrontIn}
