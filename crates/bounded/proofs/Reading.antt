@@ -33,7 +33,7 @@ use Rattle.bounded.specs.Stops.{kept-held, stops-halts, rows-are}
 use Rattle.halting.specs.Contracts.{View, view, boundOf, metOf, haltsOf, Legible, markOf, reachOf}
 use Rattle.halting.specs.Marks.{halts-few}
 use Rattle.leading.specs.Contracts.{Leading}
-use Rattle.leading.specs.Floor.{led-few}
+use Rattle.raising.specs.Floor.{led-few}
 use Rattle.ending.specs.Contracts.{Sought, Halted}
 use Rattle.ranking.specs.Contracts.{heldOf, HeldIn}
 use Rattle.bounded.specs.Contracts.{Finished}

@@ -13,7 +13,8 @@ use borrow.Author.Tests.{eqb-true, eqb-false}
 use Rattle.laws.specs.Tests.{by-cases}
 use Rattle.halting.specs.Contracts.{View, haltsOf}
 use Rattle.leading.specs.Contracts.{Leading}
-use Rattle.ending.specs.Contracts.{Obstructed, Sought, Stopped}
+use Rattle.blocking.specs.Contracts.{Obstructed}
+use Rattle.ending.specs.Contracts.{Sought, Stopped}
 
 -- Once p rows are read: the marks, the items met, the one of them to be asked first, and that the test has not held
 pub record Asking (v : View) (k count at p : ℕ) (marks tops met : List ℕ) : Type 0 where

@@ -1,27 +1,18 @@
 -- The records that the contracts of `leading` cite.
---     Led            the k greatest of n marks, falling: above any bar stand as many of them as marks do, or all k
 --     Leading        each item's mark after p rows, the k greatest of them, and the items met
 --     itemAt, Rowed  the item at row p of a list; what these items are
 --     ReadableRow    what reading a row asks, apart from the marks
---     SeatBehind     where a value stands among falling ones
---     Raised         of any marks, the k greatest once one of them is raised
---     NewlyGathered  of any marks, the items met once one of them has a mark
 --     stands, rowMark, Begun     an item stands at row p of one of the first i lists; its mark, and every item's, once these lists' row p is read
 -- Assumes nothing.
 use mathlib.Core.Path.{_≡_}
 use mathlib.Core.Bool.{Bool, cond}
 use mathlib.Core.List.{List}
-use Prim.Native.Nat.{ℕ, suc, _+_, _-_, _*_, _≤_, _<_, min}
+use Prim.Native.Nat.{ℕ, _+_, _-_, _*_, _≤_, _<_}
 use lib.Dec.{eqb}
-use lib.ListN.{length, getD, set}
+use lib.ListN.{length, getD}
 use Rattle.model.specs.Words.{someBelow}
-use Rattle.halting.specs.Contracts.{View, Legible, markOf, Marked, reachOf, Gathered}
-
--- The first k of `tops` are the k greatest of n marks, falling
-pub record Led (n k : ℕ) (marks tops : List ℕ) : Type 0 where
-  pub tops-long : k ≤ length tops
-  pub falling : (j : ℕ) → suc j < k → getD tops (suc j) 0 ≤ getD tops j 0
-  pub counts : (bar : ℕ) → reachOf k tops bar ≡ min k (reachOf n marks bar)
+use Rattle.halting.specs.Contracts.{View, Legible, markOf, Marked, Gathered}
+use Rattle.raising.specs.Contracts.{Led}
 
 -- After p rows: each item's mark, the k greatest of them, and the items met, `count` of them
 pub record Leading (v : View) (p k : ℕ) (marks tops met : List ℕ) (count : ℕ) : Type 0 where
@@ -45,23 +36,6 @@ pub record ReadableRow (v : View) (items : List ℕ) (p k : ℕ) : Type 0 where
   pub legible : Legible v p
   pub rowed : Rowed v items p
   pub k-least : 1 ≤ k
-
--- x stands at r: behind one that is not less, and all from r up to `end` are less
-pub record SeatBehind (x end : ℕ) (tops : List ℕ) (r : ℕ) : Type 0 where
-  pub seat-most : r ≤ end
-  pub front-not-less : (j : ℕ) → suc j ≡ r → x ≤ getD tops j 0
-  pub rest-less : (j : ℕ) → r ≤ j → j < end → getD tops j 0 < x
-
--- Of any n marks of which item d's is `old`, the k greatest once it is `new`
-pub record Raised (k old new : ℕ) (tops tops′ : List ℕ) : Type 0 where
-  pub raises : (n d : ℕ) (marks : List ℕ) → n ≤ length marks → d < n → getD marks d 0 ≡ old → old ≤ new
-      → Led n k marks tops → Led n k (set marks d new) tops′
-
--- Of any n marks of which item d's is `old`, the items met once it is `new`
-pub record NewlyGathered (d old count : ℕ) (met : List ℕ) (r : ℕ) (met′ : List ℕ) : Type 0 where
-  pub gathers : (n new : ℕ) (marks : List ℕ) → n ≤ length marks → d < n → getD marks d 0 ≡ old → 1 ≤ new
-      → Gathered n marks met count → Gathered n (set marks d new) met′ r
-  pub grows : count ≤ r
 
 -- ---- a row, list by list
 -- item d stands at row p of one of the first i lists

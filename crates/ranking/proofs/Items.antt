@@ -27,7 +27,7 @@ use Rattle.halting.specs.Bar.{held}
 use Rattle.halting.specs.Contracts.{View, boundOf, metOf, Legible, markOf, Marked, inFirst, Gathered}
 use Rattle.halting.specs.Marks.{mark-above, reach-is}
 use Rattle.halting.specs.Gathering.{first-none, first-more, one-more, none-more}
-use Rattle.ending.specs.Contracts.{Kth}
+use Rattle.blocking.specs.Contracts.{Kth}
 use Rattle.meeting.specs.Shortlist.{Inserted}
 use Rattle.meeting.specs.Keeping.{listing-none}
 use Rattle.ranking.specs.Contracts.{heldOf, reachesOf, frontOf, HeldIn, FrontIn, Considered}

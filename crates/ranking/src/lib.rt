@@ -7,7 +7,7 @@ use shortlist::keep;
 ghost use Prim.Native.Nat.{_-_, _≤_, _<_};
 ghost use Rattle.meeting.specs.Shortlist.{Spaced, Keeps};
 ghost use Rattle.halting.specs.Contracts.{view, Legible, Marked, Gathered};
-ghost use Rattle.ending.specs.Contracts.{Kth};
+ghost use Rattle.blocking.specs.Contracts.{Kth};
 ghost use Rattle.ranking.specs.Contracts.{HeldIn, Considered};
 
 // The item, where its mark is no smaller than `top`, into the first k after p rows, and how many there are then.

@@ -4,8 +4,8 @@
 use borrow.Author.Needs.{needs}
 use native.Mathlib.Omega.{arith}
 use Rattle.halting.specs.Gathering.{gathered-start}
-use Rattle.leading.specs.Floor.{led-start, marked-start}
-use Rattle.ending.specs.Contracts.{kth-of}
+use Rattle.raising.specs.Floor.{led-start, marked-start}
+use Rattle.blocking.specs.Contracts.{kth-of}
 use Rattle.bounded.proofs.Reading.{legible, sought, top-least, finishes}
 use Rattle.bounded.proofs.run_nra.Statement.{statement}
 use Rattle.bounded.proofs.run_nra.Tie as tie

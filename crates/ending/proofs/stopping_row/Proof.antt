@@ -7,7 +7,7 @@ use Prim.Native.Nat.{_+_, _-_, _≤_}
 use native.Mathlib.Omega.{arith}
 use lib.ListN.{length}
 use Rattle.halting.specs.Contracts.{view, at-row}
-use Rattle.ending.specs.Contracts.{kth-of}
+use Rattle.blocking.specs.Contracts.{kth-of}
 use Rattle.ending.proofs.Asking.{Asking, asking-starts, asking-goes-on, asking-stops, asking-ends}
 use Rattle.ending.proofs.stopping_row.Statement.{statement}
 use Rattle.ending.proofs.stopping_row.Tie as tie

@@ -9,8 +9,8 @@ use lib.ListN.{length, getD, set}
 use Rattle.laws.specs.Lists.{table-room}
 use Rattle.halting.specs.Contracts.{view, markOf, at-row}
 use Rattle.halting.specs.Gathering.{gathered-short}
+use Rattle.raising.specs.Floor.{mark-most-top}
 use Rattle.leading.specs.Contracts.{Begun}
-use Rattle.leading.proofs.Raising.{mark-most-top}
 use Rattle.leading.proofs.Rows.{row-met, mark-least, row-mark-most, begun-next}
 use Rattle.leading.proofs.read_entry.Statement.{statement}
 use Rattle.leading.proofs.read_entry.Tie as tie
@@ -86,7 +86,7 @@ raise-requires c κs =
     let after-wide = c .before .before .before in
     let led = at-start .pre .3 in
     let some = at-start .pre .0 .k-least in
-    (some, led .tops-long, mark-most-top led some (at-start .pre .2 .marks-long) (after-wide .wide .result) (read-small after-wide))
+    (some, led .tops-long, mark-most-top led some (after-wide .wide .result) (read-small after-wide))
 
 gather-requires : tie.Need-gather-requires
 gather-requires c κs none =

@@ -6,7 +6,8 @@ use Prim.Native.Nat.{_-_, _≤_}
 use native.Mathlib.Omega.{arith}
 use lib.ListN.{length}
 use Rattle.halting.specs.Contracts.{view, Gathered}
-use Rattle.leading.specs.Contracts.{Led, Begun}
+use Rattle.raising.specs.Contracts.{Led}
+use Rattle.leading.specs.Contracts.{Begun}
 use Rattle.leading.proofs.Rows.{begun-start, begun-whole}
 use Rattle.leading.proofs.read_row.Statement.{statement}
 use Rattle.leading.proofs.read_row.Tie as tie

@@ -2,6 +2,7 @@
 --     led-falls              the k greatest fall over any distance
 --     above-floor, under-floor       a bar that the last does not pass is passed by fewer than k; a lower one by all k
 --     led-bar, led-few       the last tells the highest bar that k marks are above; where it is 0, fewer than k items are met
+--     mark-most-top          no mark is above the greatest
 --     led-start, marked-start        before any row all marks are 0, and so are the k greatest
 -- Assumes nothing.
 use mathlib.Core.Path.{_≡_, sym, _∙_}
@@ -11,12 +12,12 @@ use Prim.Native.Nat.{ℕ, zero, suc, _+_, _-_, _*_, _≤_, _<_}
 use native.Mathlib.Omega.{arith}
 use lib.Dec.{leb, ltb}
 use lib.ListN.{getD, replicate, length-replicate}
-use borrow.Author.Tests.{lt-ltb, le-ltb, lt-leb}
-use Rattle.laws.specs.Tests.{some-none}
+use borrow.Author.Tests.{leb-true, leb-false, lt-ltb, le-ltb, lt-leb}
+use Rattle.laws.specs.Tests.{by-cases, some-none}
 use Rattle.laws.specs.Lists.{zeros-at}
-use Rattle.laws.specs.Passing.{passing, passing-most, passing-all, passing-none}
+use Rattle.laws.specs.Passing.{passing, passing-most, passing-all, passing-none, passing-some}
 use Rattle.halting.specs.Contracts.{View, Legible, metOf, markOf, Marked, reachOf, Barred}
-use Rattle.leading.specs.Contracts.{Led}
+use Rattle.raising.specs.Contracts.{Led}
 
 -- entries that fall from one to the next fall over any distance
 falls-far : (k : ℕ) (tops : List ℕ) → ((j : ℕ) → suc j < k → getD tops (suc j) 0 ≤ getD tops j 0)
@@ -58,6 +59,19 @@ module _ {n k : ℕ} {marks tops : List ℕ} (led : Led n k marks tops) (some : 
 
   pub led-few : getD tops (k - 1) 0 ≡ 0 → reachOf n marks 0 < k
   led-few none = omega (arith, led .counts 0, above-floor 0 (omega arith))
+
+  pub mark-most-top : (d : ℕ) → d < n → getD marks d 0 ≤ getD tops 0 0
+  unfolding reachOf
+  mark-most-top d small =
+      let own = getD marks d 0 in
+      let top = getD tops 0 0 in
+      by-cases (leb own top)
+      (λ y. leb-true own top y)
+      (λ z.
+      let none = passing-none (λ j. ltb top (getD tops j 0)) k
+      (λ j h. le-ltb top (getD tops j 0) (led-falls 0 j (omega arith) h)) in
+      let one = passing-some (λ e. ltb top (getD marks e 0)) n d small (lt-ltb top own (leb-false own top z)) in
+      absurd (omega (arith, led .counts top)))
 
 -- ---- before any row
 reach-zeros : (n size bar : ℕ) → reachOf n (replicate size 0) bar ≡ 0

@@ -15,7 +15,7 @@ use Rattle.laws.specs.Tests.{by-cases, some-found}
 use Rattle.halting.specs.Contracts.{View, Legible, Marked, Gathered, inFirst, markOf, haltsOf, passesOf, unmetOf, Blocking}
 use Rattle.halting.specs.Gathering.{gathered-short}
 use Rattle.halting.specs.Marks.{unmet-passes}
-use Rattle.ending.specs.Contracts.{InTheWay, Obstructed}
+use Rattle.blocking.specs.Contracts.{InTheWay, Obstructed}
 
 pub stuck-at : (v : View) (k p count r : ℕ) → r < v .n → r ≤ count → haltsOf v k p ≡ false → Obstructed v k p count r
 stuck-at v k p count r less within fails =

@@ -1,11 +1,11 @@
--- `leading::gather` meets its contract: an item with a mark is among the items met, and any other comes behind them.
+-- `raising::gather` meets its contract: an item with a mark is among the items met, and any other comes behind them.
 -- Assumes nothing.
 use borrow.Author.Needs.{needs}
 use native.Mathlib.Numerals.{add-one}
 use native.Mathlib.Omega.{arith}
 use Rattle.halting.specs.Gathering.{gathered-again, gathered-new}
-use Rattle.leading.proofs.gather.Statement.{statement}
-use Rattle.leading.proofs.gather.Tie as tie
+use Rattle.raising.proofs.gather.Statement.{statement}
+use Rattle.raising.proofs.gather.Tie as tie
 
 returns : tie.Need-returns
 returns c =

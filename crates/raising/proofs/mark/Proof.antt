@@ -1,12 +1,12 @@
--- `leading::mark` meets its contract.
+-- `raising::mark` meets its contract.
 -- Assumes nothing.
 use mathlib.Core.Path.{_≡_}
 use mathlib.Core.Bool.{false}
 use native.Mathlib.Omega.{arith}
 use Rattle.halting.specs.Contracts.{view, boundOf, markOf, bound-asks}
 use Rattle.halting.specs.Marks.{bound-most}
-use Rattle.leading.proofs.mark.Statement.{statement}
-use Rattle.leading.proofs.mark.Tie as tie
+use Rattle.raising.proofs.mark.Statement.{statement}
+use Rattle.raising.proofs.mark.Tie as tie
 
 bound-requires : tie.Need-bound-requires
 bound-requires c κs =

@@ -1,4 +1,4 @@
--- `ending::obstacle` meets its contract: one item in the way keeps the test from holding, and where there is none the number of highs
+-- `blocking::obstacle` meets its contract: one item in the way keeps the test from holding, and where there is none the number of highs
 -- above the bar tells, which is no more than k where no more lows reach the bar.
 -- Assumes nothing.
 use mathlib.Core.Path.{_≡_, sym, _∙_}
@@ -11,9 +11,9 @@ use Rattle.laws.specs.Tests.{and-yes}
 use Rattle.halting.specs.Contracts.{view, Barred, unmetOf, passesOf, limit-asks}
 use Rattle.halting.specs.Marks.{halts-few, halts-not, halts-unmet, halts-yes, halts-reach}
 use Rattle.halting.specs.Gathering.{gathered-count, gathered-most, gathered-named, gathered-reach}
-use Rattle.ending.proofs.Obstacles.{stuck-at, free-at, all-clear}
-use Rattle.ending.proofs.obstacle.Statement.{statement}
-use Rattle.ending.proofs.obstacle.Tie as tie
+use Rattle.blocking.proofs.Obstacles.{stuck-at, free-at, all-clear}
+use Rattle.blocking.proofs.obstacle.Statement.{statement}
+use Rattle.blocking.proofs.obstacle.Tie as tie
 
 returns : tie.Need-returns
 returns c =

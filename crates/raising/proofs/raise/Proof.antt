@@ -1,4 +1,4 @@
--- `leading::raise` meets its contract: a mark that is not above the least leaves all as it is, any other is slid in, and the entry
+-- `raising::raise` meets its contract: a mark that is not above the least leaves all as it is, any other is slid in, and the entry
 -- of the old mark or the least goes.
 -- Assumes nothing.
 use borrow.Author.Needs.{needs}
@@ -7,9 +7,9 @@ use native.Mathlib.Omega.{arith}
 use lib.Dec.{leb}
 use borrow.Author.Tests.{leb-true, leb-false}
 use Rattle.laws.specs.Tests.{by-cases}
-use Rattle.leading.proofs.Raising.{raised-stays, raised-slid}
-use Rattle.leading.proofs.raise.Statement.{statement}
-use Rattle.leading.proofs.raise.Tie as tie
+use Rattle.raising.proofs.Raising.{raised-stays, raised-slid}
+use Rattle.raising.proofs.raise.Statement.{statement}
+use Rattle.raising.proofs.raise.Tie as tie
 
 sub-least : tie.Need-sub-least
 sub-least c = search needs

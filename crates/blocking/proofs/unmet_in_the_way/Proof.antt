@@ -1,9 +1,9 @@
--- `ending::unmet_in_the_way` meets its contract.
+-- `blocking::unmet_in_the_way` meets its contract.
 -- Assumes nothing.
 use native.Mathlib.Omega.{arith}
 use borrow.Author.Tests.{lt-ltb, le-ltb}
-use Rattle.ending.proofs.unmet_in_the_way.Statement.{statement}
-use Rattle.ending.proofs.unmet_in_the_way.Tie as tie
+use Rattle.blocking.proofs.unmet_in_the_way.Statement.{statement}
+use Rattle.blocking.proofs.unmet_in_the_way.Tie as tie
 
 returns : tie.Need-returns
 returns c =

@@ -1,4 +1,4 @@
--- `leading::seat` meets its contract. The loop's invariant: each from j on is less than x; the measure is j.
+-- `raising::seat` meets its contract. The loop's invariant: each from j on is less than x; the measure is j.
 -- Assumes nothing.
 use mathlib.Core.Path.{_≡_}
 use mathlib.Core.Logic.{⊎-elim}
@@ -6,8 +6,8 @@ use Prim.Native.Nat.{ℕ, _-_, _≤_, _<_}
 use native.Mathlib.Nat.{eq-or-lt-of-le}
 use native.Mathlib.Omega.{arith}
 use lib.ListN.{getD}
-use Rattle.leading.proofs.seat.Statement.{statement}
-use Rattle.leading.proofs.seat.Tie as tie
+use Rattle.raising.proofs.seat.Statement.{statement}
+use Rattle.raising.proofs.seat.Tie as tie
 
 abbrev Inv-loop : tie.InvT-loop
 Inv-loop x end tops j₀ j = (j ≤ end) × ((i : ℕ) → j ≤ i → i < end → getD tops i 0 < x)

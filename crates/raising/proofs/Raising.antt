@@ -1,7 +1,6 @@
 -- The k greatest of n marks once one of the marks is raised. All goes by how many are above a bar: nothing tells whose mark an entry is.
 --     above-is, above-yes, above-no      1 where a number is above a bar, as a difference; where it is, and where it is not
 --     reach-falls, reach-most, reach-set     how many marks are above a bar: above a higher one, at most all, with one mark changed
---     mark-most-top          no mark is above the greatest
 --     own-entry, gone-is     a mark above the least of the k greatest is one of them; the entry that goes is that, or the least
 --     raised-under           the new mark is not above the least: the k greatest stay
 --     raised-in              else they are those with the new mark slid in
@@ -19,12 +18,12 @@ use lib.Seq.{getD-set-same, getD-set-other}
 use borrow.Author.Tests.{eqb-true, eqb-false, leb-true, leb-false, ltb-true, ltb-false, lt-ltb, le-ltb}
 use Rattle.laws.specs.Tests.{by-cases}
 use Rattle.laws.specs.Lookups.{once}
-use Rattle.laws.specs.Passing.{passing-most, passing-same, passing-none, passing-some, passing-wider}
+use Rattle.laws.specs.Passing.{passing-most, passing-same, passing-wider}
 use Rattle.meeting.specs.Contracts.{slid}
 use Rattle.halting.specs.Contracts.{reachOf}
-use Rattle.leading.specs.Contracts.{Led, SeatBehind, Raised}
-use Rattle.leading.specs.Floor.{led-falls, under-floor, above-floor}
-use Rattle.leading.proofs.Slid.{slid-length, slid-front, slid-seat, slid-moved, slid-behind, slid-reach, passing-slid}
+use Rattle.raising.specs.Contracts.{Led, SeatBehind, Raised}
+use Rattle.raising.specs.Floor.{led-falls, under-floor, above-floor}
+use Rattle.raising.proofs.Slid.{slid-length, slid-front, slid-seat, slid-moved, slid-behind, slid-reach, passing-slid}
 
 -- ---- how many are above a bar
 above-is : (bar x : ℕ) → once (ltb bar x) ≡ min 1 (x - bar)
@@ -68,18 +67,6 @@ module _ {n k : ℕ} {marks tops : List ℕ} (led : Led n k marks tops) (some : 
 
   abbrev old : ℕ
   old = getD marks d 0
-
-  pub mark-most-top : old ≤ getD tops 0 0
-  unfolding reachOf
-  mark-most-top =
-      let top = getD tops 0 0 in
-      by-cases (leb old top)
-      (λ y. leb-true old top y)
-      (λ z.
-      let none = passing-none (λ j. ltb top (getD tops j 0)) k
-      (λ j h. le-ltb top (getD tops j 0) (led-falls led some 0 j (omega arith) h)) in
-      let one = passing-some (λ e. ltb top (getD marks e 0)) n d small (lt-ltb top old (leb-false old top z)) in
-      absurd (omega (arith, led .counts top)))
 
   -- no entry of the k greatest is the old mark: above it are as many as above one less
   no-entry : (last : ℕ) → SeatBehind old k tops (suc last) → old < getD tops last 0 → (bar : ℕ) → suc bar ≡ old

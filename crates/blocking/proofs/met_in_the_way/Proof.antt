@@ -1,10 +1,10 @@
--- `ending::met_in_the_way` meets its contract: what is not from `at` on is in front of it.
+-- `blocking::met_in_the_way` meets its contract: what is not from `at` on is in front of it.
 -- Assumes nothing.
 use native.Mathlib.Omega.{arith}
 use Rattle.halting.specs.Gathering.{gathered-most, gathered-named}
-use Rattle.ending.proofs.Obstacles.{found-in-the-way, none-in-the-way}
-use Rattle.ending.proofs.met_in_the_way.Statement.{statement}
-use Rattle.ending.proofs.met_in_the_way.Tie as tie
+use Rattle.blocking.proofs.Obstacles.{found-in-the-way, none-in-the-way}
+use Rattle.blocking.proofs.met_in_the_way.Statement.{statement}
+use Rattle.blocking.proofs.met_in_the_way.Tie as tie
 
 blocker-requires : tie.Need-blocker-requires
 blocker-requires c κs =
