@@ -55,8 +55,37 @@ fn note_lists(n: usize, items: &[u16], scores: &[u16], work: &mut [u16]) -> Chec
     Checked::default()
 }
 
-/// The first refusal of a list and its position, from 1. Each item that passes is noted at its own place.
+/// The first refusal of a list and its position, from 1. Most lists pass, so a walk is the way of a damaged one alone.
 fn note_list(items: &[u16], scores: &[u16], places: &mut [u16]) -> Option<(u32, u32)> {
+    if note_whole(items, scores, places) {
+        return None;
+    }
+    walk_list(items, scores, places)
+}
+
+/// Notes a list that passes, by sweeps over the whole of it, none of which ends early.
+fn note_whole(items: &[u16], scores: &[u16], places: &mut [u16]) -> bool {
+    let limit = places.len() as u16;
+    let reaches = items
+        .iter()
+        .fold(false, |found, &item| found | (limit <= item));
+    let rises = scores
+        .windows(2)
+        .fold(false, |found, pair| found | (pair[0] < pair[1]));
+    if reaches || rises {
+        return false;
+    }
+    places.fill(0);
+    for (before, &item) in items.iter().enumerate() {
+        places[usize::from(item)] = before as u16 + 1;
+    }
+    !places
+        .iter()
+        .fold(false, |found, &place| found | (place == 0))
+}
+
+/// Each item that passes is noted at its own place.
+fn walk_list(items: &[u16], scores: &[u16], places: &mut [u16]) -> Option<(u32, u32)> {
     places.fill(0);
     let mut before = u16::MAX;
     for (position, (&item, &score)) in (1..).zip(items.iter().zip(scores)) {

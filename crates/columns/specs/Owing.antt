@@ -79,7 +79,6 @@ same-shape m n rule k weights items scores room tally work =
 -- an accepted search keeps k places
 pub kept-size : (which : ℕ) (s : Poses) (q : Query) (k : ℕ) → Valid s → 1 ≤ k → k ≤ s .n
     → length (kept s k (searchAt which s q) (rows s k (searchAt which s q))) ≡ k
-unfolding searchAt
 kept-size zero s q k v least most = promised s v q k least most .ta .size
 kept-size (suc zero) s q k v least most = promised s v q k least most .bpa .size
 kept-size (suc (suc zero)) s q k v least most = promised s v q k least most .bpa2 .size

@@ -7,7 +7,8 @@
 --     table-same, table-set, table-of    two tables with the same entries; a store into a table; any long enough slice as a table
 --     two-places                         two entries of a table at one place are one entry
 --     count-append, count-set            a count over two lists; after a store that makes one more pass
---     count-full                         where a count is the whole length, each entry passes
+--     count-kept                         after a store of one that passes over one that passes
+--     count-full, count-all              where a count is the whole length, each entry passes; where each passes, it is
 --     map-at, map-take, map-drop, map-join       an entry of a mapped list; a part of one; of two joined
 --     over-length, over-at               a slice written over keeps its length; what stands in its first part
 --     over-map-at, over-beyond           the same of a mapped list; what stands past the first part
@@ -189,6 +190,14 @@ count-set t [] d v x h n y = absurd (not-suc-le-zero h)
 count-set t (a ∷ l) zero v x h n y = rw (n, y) (omega arith)
 count-set t (a ∷ l) (suc d) v x h n y = rw (count-set t l d v x (le-of-suc-le-suc h) n y) (omega arith)
 
+-- after a store of one that passes over one that passes
+pub count-kept : {A : Type 0} (t : A → Bool) (l : List A) (d : ℕ) (v x : A) → d < length l → t (getD l d x) ≡ true
+    → t v ≡ true → count t (set l d v) ≡ count t l
+unfolding count
+count-kept t [] d v x h w y = absurd (not-suc-le-zero h)
+count-kept t (a ∷ l) zero v x h w y = rw (w, y)
+count-kept t (a ∷ l) (suc d) v x h w y = rw (count-kept t l d v x (le-of-suc-le-suc h) w y)
+
 -- as many passing as there are entries: the first passes, and so do the others
 count-full-cons : {A : Type 0} (t : A → Bool) (a : A) (l : List A) → count t (a ∷ l) ≡ suc (length l)
     → (t a ≡ true) × (count t l ≡ length l)
@@ -203,6 +212,14 @@ pub count-full : {A : Type 0} (t : A → Bool) (l : List A) (d : ℕ) (x : A) �
 count-full t [] d x e h = absurd (not-suc-le-zero h)
 count-full t (a ∷ l) zero x e h = count-full-cons t a l e .0
 count-full t (a ∷ l) (suc d) x e h = count-full t l d x (count-full-cons t a l e .1) (le-of-suc-le-suc h)
+
+-- where each entry passes, a count is the whole length
+pub count-all : {A : Type 0} (t : A → Bool) (l : List A) (x : A) → ((d : ℕ) → d < length l → t (getD l d x) ≡ true)
+    → count t l ≡ length l
+unfolding count
+count-all t [] x h = refl
+count-all t (a ∷ l) x h =
+    rw (h 0 (omega arith), count-all t l x (λ d below. h (suc d) (omega arith))) (omega arith)
 
 -- ---- map
 pub map-at : (f : ℕ → ℕ) (l : List ℕ) (j : ℕ) → j < length l → getD (map f l) j 0 ≡ f (getD l j 0)

@@ -33,7 +33,6 @@ use Rattle.lines.specs.Contracts.{lineOr, oneLine, linesTo}
 -- ---- the shortlist
 -- what each of the four owes, by its number
 owed-at : (which : ℕ) (s : Poses) (q : Query) (k : ℕ) → Valid s → 1 ≤ k → k ≤ s .n → Owed s q k (searchAt which s q)
-unfolding searchAt
 owed-at zero s q k v some most = promised s v q k some most .ta
 owed-at (suc zero) s q k v some most = promised s v q k some most .bpa
 owed-at (suc (suc zero)) s q k v some most = promised s v q k some most .bpa2
@@ -100,5 +99,5 @@ module _ (l : Lent) where
   lines-next which e = rw (add-one which, one-accepted which e)
 
   pub lines-four : searchVerdict l ≡ accepted → linesTo 4 l ≡ printing (searchVerdict l) l
-  unfolding linesTo printing fourLines nameAt searchAt
+  unfolding linesTo printing fourLines nameAt
   lines-four e = rw e (simp append-assoc)

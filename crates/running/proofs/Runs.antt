@@ -23,7 +23,6 @@ use Rattle.running.specs.Contracts.{searchAt, Did, Runs}
 
 -- the three that go by score are the first three
 named : (which : ℕ) (s : Poses) (q : Query) → which ≤ 2 → searchBy which s q ≡ searchAt which s q
-unfolding searchAt
 named zero s q h = search-ta s q
 named (suc zero) s q h = search-bpa s q
 named (suc (suc zero)) s q h = search-bpa2 s q
@@ -31,7 +30,6 @@ named (suc (suc (suc which))) s q h = absurd (omega (arith, h))
 
 -- and any other is NRA
 last-named : (which : ℕ) (s : Poses) (q : Query) → 3 ≤ which → NRA s q ≡ searchAt which s q
-unfolding searchAt
 last-named zero s q h = absurd (omega (arith, h))
 last-named (suc zero) s q h = absurd (omega (arith, h))
 last-named (suc (suc zero)) s q h = absurd (omega (arith, h))

@@ -13,7 +13,7 @@ use Rattle.meeting.specs.declared.Done.{Done}
 use Rattle.meeting.specs.Contracts.{Ran}
 
 -- the search of a number
-unfoldable pub searchAt : ℕ → Poses → Query → Search
+abbrev pub searchAt : ℕ → Poses → Query → Search
 searchAt zero s q = TA s q
 searchAt (suc zero) s q = BPA s q
 searchAt (suc (suc zero)) s q = BPA2 s q

@@ -17,7 +17,6 @@ use Rattle.places.proofs.bpa2_rows.Code as code
 
 -- BPA2 is the search of its number
 of-number : BPA2 ≡ searchAt 2
-unfolding searchAt
 of-number = refl
 
 pub bpa2-rows-spec : {M : Type 1} → stated.statement M

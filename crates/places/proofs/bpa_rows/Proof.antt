@@ -17,7 +17,6 @@ use Rattle.places.proofs.bpa_rows.Code as code
 
 -- BPA is the search of its number
 of-number : BPA ≡ searchAt 1
-unfolding searchAt
 of-number = refl
 
 pub bpa-rows-spec : {M : Type 1} → stated.statement M

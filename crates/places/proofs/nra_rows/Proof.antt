@@ -17,7 +17,6 @@ use Rattle.places.proofs.nra_rows.Code as code
 
 -- NRA is the search of its number
 of-number : NRA ≡ searchAt 3
-unfolding searchAt
 of-number = refl
 
 pub nra-rows-spec : {M : Type 1} → stated.statement M

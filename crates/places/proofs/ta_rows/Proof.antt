@@ -17,7 +17,6 @@ use Rattle.places.proofs.ta_rows.Code as code
 
 -- TA is the search of its number
 of-number : TA ≡ searchAt 0
-unfolding searchAt
 of-number = refl
 
 pub ta-rows-spec : {M : Type 1} → stated.statement M

@@ -1,0 +1,13 @@
+-- The record that a contract of `sweeps` cites.
+--     Clear      what `note_items` asks: a place for each item, and nothing noted yet
+-- Assumes nothing.
+use mathlib.Core.Path.{_≡_}
+use mathlib.Core.List.{List}
+use Prim.Native.Nat.{ℕ, _≤_, _<_}
+use lib.ListN.{length, getD, replicate}
+
+-- Every item has a place, no position is too large to be noted, and nothing is noted yet
+pub record Clear (items places : List ℕ) : Type 0 where
+  pub few : length items ≤ 1024
+  pub placed : (q : ℕ) → q < length items → getD items q 0 < length places
+  pub empty : places ≡ replicate (length places) 0

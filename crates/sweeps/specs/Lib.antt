@@ -1,0 +1,3 @@
+-- What the contracts of `sweeps` cite.
+--     Contracts      the one record
+pub mod Contracts
