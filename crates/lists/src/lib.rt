@@ -1,5 +1,5 @@
-// The list check and the place table. Every entry of a pose set is looked at once, in reading order, and
-// each item's position in each list is noted in the work slice.
+// The list check and the place table. List by list, each item's position is noted in the work slice, or the first refusal in reading
+// order is found.
 use entries::clear;
 use entries::note_list;
 use entries::passed;

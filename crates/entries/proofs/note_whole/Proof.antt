@@ -1,18 +1,12 @@
 -- `entries::note_whole` meets its contract: `whole-passes`, by what each sweep found.
 -- Assumes nothing.
-use mathlib.Core.Path.{_≡_, refl, sym, ap, _∙_}
-use mathlib.Core.Bool.{true, false, false≢true}
-use mathlib.Core.List.{List, _++_, append-nil}
-use Prim.Native.Nat.{ℕ, _+_, _*_, _<_}
-use native.Mathlib.Nat.{le-of-eq}
-use native.Mathlib.Omega.{arith}
-use lib.Dec.{eqb}
-use lib.ListN.{length, getD, drop, replicate, length-replicate, drop-of-length-le}
+use mathlib.Core.Path.{sym, ap, _∙_}
+use mathlib.Core.Bool.{false≢true}
+use lib.ListN.{length, length-replicate}
 use borrow.Author.Needs.{needs}
-use Rattle.model.specs.Words.{someBelow}
 use Rattle.laws.specs.Lists.{row-length}
 use Rattle.entries.proofs.Walk.{cleared}
-use Rattle.entries.proofs.Whole.{own, own-length, own-small, whole-passes}
+use Rattle.entries.proofs.Whole.{own-length, own-small, whole-passes}
 use Rattle.entries.proofs.note_whole.Statement.{statement}
 use Rattle.entries.proofs.note_whole.Tie as tie
 

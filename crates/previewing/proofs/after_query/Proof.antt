@@ -42,13 +42,19 @@ refused-line-requires : tie.Need-refused-line-requires
 refused-line-requires c κs = search needs
 
 same-length : tie.Need-same-length
-same-length c = search needs
+same-length c =
+    let after-read-lists = (c .before .before .before .before .before .before .before .before .before .before) in
+    after-read-lists .read-lists .kept .1 .0
 
 same-length-2 : tie.Need-same-length-2
-same-length-2 c = search needs
+same-length-2 c =
+    let after-read-lists = (c .before .before .before .before .before .before .before .before .before .before) in
+    after-read-lists .read-lists .kept .1 .1 .0
 
 same-length-3 : tie.Need-same-length-3
-same-length-3 c = search needs
+same-length-3 c =
+    let after-refused-line = (c .before .before) in
+    after-refused-line .refused-line .kept .1 .1 .1 .0
 
 returns : tie.Need-returns
 returns c =
@@ -99,28 +105,44 @@ search-lines-requires : tie.Need-search-lines-requires
 search-lines-requires c κs = search needs
 
 same-length-4 : tie.Need-same-length-4
-same-length-4 c = search needs
+same-length-4 c =
+    let after-read-lists = (c .before .before .before .before .before .before .before .before .before .before .before .before .before .before .before .before .before .before .before .before .before .before .before .before .before .before .before .before) in
+    after-read-lists .read-lists .kept .1 .0
 
 same-length-5 : tie.Need-same-length-5
-same-length-5 c = search needs
+same-length-5 c =
+    let after-read-lists = (c .before .before .before .before .before .before .before .before .before .before .before .before .before .before .before .before .before .before .before .before .before .before .before .before .before .before .before .before) in
+    after-read-lists .read-lists .kept .1 .1 .0
 
 same-length-6 : tie.Need-same-length-6
-same-length-6 c = search needs
+same-length-6 c =
+    let after-search-lines = (c .before .before .before .before .before .before .before .before .before .before .before .before) in
+    after-search-lines .search-lines .kept .1 .1 .1 .1 .0
 
 same-length-7 : tie.Need-same-length-7
-same-length-7 c = search needs
+same-length-7 c =
+    let after-search-lines = (c .before .before .before .before .before .before .before .before .before .before .before .before) in
+    after-search-lines .search-lines .kept .1 .1 .1 .1 .1 .0
 
 same-length-8 : tie.Need-same-length-8
-same-length-8 c = search needs
+same-length-8 c =
+    let after-search-lines = (c .before .before .before .before .before .before .before .before .before .before .before .before) in
+    after-search-lines .search-lines .kept .1 .1 .1 .1 .1 .1 .0
 
 same-length-9 : tie.Need-same-length-9
-same-length-9 c = search needs
+same-length-9 c =
+    let after-search-lines = (c .before .before .before .before .before .before .before .before .before .before .before .before) in
+    after-search-lines .search-lines .kept .1 .1 .1 .1 .1 .1 .1 .0
 
 same-length-10 : tie.Need-same-length-10
-same-length-10 c = search needs
+same-length-10 c =
+    let after-search-lines = (c .before .before .before .before .before .before .before .before .before .before .before .before) in
+    after-search-lines .search-lines .kept .1 .1 .1 .1 .1 .1 .1 .1 .0
 
 same-length-11 : tie.Need-same-length-11
-same-length-11 c = search needs
+same-length-11 c =
+    let after-search-lines = (c .before .before .before .before .before .before .before .before .before .before .before .before) in
+    after-search-lines .search-lines .kept .1 .1 .1 .1 .1 .1 .1 .1 .1 .0
 
 returns-2 : tie.Need-returns-2
 returns-2 c =
