@@ -1,5 +1,3 @@
 -- Laws that the proofs of this crate cite.
 --     Walk     one list, position by position
---     Whole    one list, by sweeps over the whole of it
 mod Walk
-mod Whole

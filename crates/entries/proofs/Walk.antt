@@ -3,30 +3,25 @@
 --     Walked             after p positions: the notes, no refusal so far, the score before
 --     walk-starts, walk-goes-on                  at the first position; past one more
 --     refused-7, refused-8, refused-9            the refusal that is met at position p
---     cleared                                    a whole slice that is cleared
---     list-refused, list-passed                  what `note_list` promises, from a refusal and from a list that passes
---     noted-passes, walk-passes                  a list that passes, by its notes; by a walk to its end
+--     walk-passes                                a list that passes, by a walk to its end
 -- Assumes nothing.
 use mathlib.Core.Path.{_≡_, refl, sym, ap, _∙_}
 use mathlib.Core.Bool.{true, false}
-use mathlib.Core.List.{List, _++_, append-nil}
-use Prim.Native.Nat.{ℕ, zero, suc, _+_, _-_, _≤_, _<_}
-use native.Mathlib.Nat.{le-of-eq}
+use mathlib.Core.List.{List}
+use Prim.Native.Nat.{ℕ, zero, suc, _+_, _≤_, _<_}
 use native.Mathlib.Numerals.{add-one, sub-one}
 use native.Mathlib.Omega.{arith}
 use lib.Dec.{ltb, eqb}
-use lib.ListN.{length, getD, set, drop, replicate, drop-of-length-le}
+use lib.ListN.{getD, set, replicate}
 use borrow.Author.Tests.{le-leb, lt-leb, lt-ltb, le-ltb, eq-eqb, ne-eqb, not-false, not-true}
 use Rattle.model.specs.Words.{row}
-use Rattle.model.specs.Given.{Poses, item, score, place}
-use Rattle.model.specs.Refusals.{Verdict, accepted, refused, notItem, stoodEarlier, rises, standing, fault, firstRefusal, inList}
-use Rattle.model.specs.Answers.{told}
-use Rattle.laws.specs.Lists.{row-at, row-same, row-zeros}
-use Rattle.laws.specs.Verdicts.{accepted≢refused, first-refusal-at}
+use Rattle.model.specs.Given.{Poses, item, score}
+use Rattle.model.specs.Refusals.{accepted, refused, notItem, stoodEarlier, rises, standing, fault, firstRefusal, inList}
+use Rattle.laws.specs.Lists.{row-at, row-zeros}
+use Rattle.laws.specs.Verdicts.{first-refusal-at}
 use Rattle.laws.specs.Marks.{noted, noted-store, noted-free}
-use Rattle.laws.specs.Accepted.{noted-place}
-use Rattle.entries.specs.declared.Checked.{Checked}
-use Rattle.entries.specs.Contracts.{poses, valueOf, ListPasses, ListNoted}
+use Rattle.entries.specs.Contracts.{poses, ListPasses}
+use Rattle.entries.specs.Noted.{noted-passes}
 
 -- the score before position p of scores g; no score is above 65,535, so the first position never rises
 unfoldable pub scoreBefore : (ℕ → ℕ) → ℕ → ℕ
@@ -95,37 +90,6 @@ module _ (s : Poses) (i : ℕ) where
               none-refused = rw (add-one p, w .none-refused, passes);
               before-is = rw add-one;
             }
-
--- a whole slice that is cleared
-pub cleared : (n : ℕ) (l : List ℕ) → length l ≡ n → replicate n 0 ++ drop n l ≡ replicate n 0
-cleared n l e = rw (drop-of-length-le l (le-of-eq e)) (append-nil (replicate n 0))
-
--- How many lists there are does not matter to one of them
-one-list : (m n : ℕ) (items scores : List ℕ) (i : ℕ) {v : Verdict} → inList (poses 0 n items scores) i ≡ v
-    → inList (poses m n items scores) i ≡ v
-unfolding inList fault notItem stoodEarlier rises item score
-one-list m n items scores i e = e
-
-pub list-refused : {i n x j q : ℕ} {items scores after : List ℕ} {r : Checked} → valueOf r ≡ told (refused x j q)
-    → inList (poses 0 n items scores) i ≡ refused x j q → ListNoted i n items scores r after
-list-refused {i} {n} {x} {j} {q} {items} {scores} says e =
-    record {
-      answers = λ m. says ∙ ap told (sym (one-list m n items scores i e));
-      notes = λ m a. absurd (accepted≢refused (sym a ∙ one-list m n items scores i e));
-    }
-
-pub list-passed : {i n : ℕ} {items scores after : List ℕ} {r : Checked} → valueOf r ≡ told accepted → ListPasses i n items scores after
-    → ListNoted i n items scores r after
-list-passed says p = record { answers = λ m. says ∙ ap told (sym (p .passes m)); notes = λ m _. p .notes m }
-
--- a list that passes, whose items are all noted
-pub noted-passes : {i n : ℕ} {items scores after : List ℕ} → inList (poses 0 n items scores) i ≡ accepted
-    → after ≡ row (noted (item (poses 0 n items scores) i) n) n → ListPasses i n items scores after
-unfolding place item
-noted-passes {i} {n} {items} {scores} passes e =
-    let s = poses 0 n items scores in
-    let all = e ∙ row-same (noted (item s i) n) (λ d. place s i d + 1) n (noted-place s i passes) in
-    record { passes = λ m. one-list m n items scores i passes; notes = λ m. all }
 
 pub walk-passes : {i n before : ℕ} {items scores after : List ℕ} → Walked (poses 0 n items scores) i after before n
     → ListPasses i n items scores after

@@ -1,16 +1,11 @@
-// One list of the list check: each item's position is noted, and the first refusal in reading order is found where there is one.
-use sweeps::has_zero;
-use sweeps::note_items;
-use sweeps::reaches;
-use sweeps::rises;
+// One list of the list check, walked: its entries are looked at in reading order until one is refused, and each item's position is noted.
 ghost use mathlib.Core.Path.{_≡_};
-ghost use mathlib.Core.Bool.{true};
 ghost use mathlib.Core.List.{_++_};
 ghost use Prim.Native.Nat.{_+_, _≤_, _<_};
 ghost use lib.ListN.{length, drop, replicate};
 ghost use Rattle.model.specs.Refusals.{accepted, refused};
 ghost use Rattle.model.specs.Answers.{told};
-ghost use Rattle.entries.specs.Contracts.{valueOf, Listed, ListPasses, ListNoted};
+ghost use Rattle.entries.specs.Contracts.{valueOf, Listed, ListNoted};
 
 // What the list check answers: a refusal's number with list and position, both from 1, or all 0.
 pub struct Checked {
@@ -72,31 +67,9 @@ pub fn wide(x: u16) -> usize
     x as usize
 }
 
-// Notes a list that passes, by sweeps over the whole of it: n items below n leave no place empty only if none stands twice. Where
-// it answers false the list is damaged, and a walk tells where.
-fn note_whole(i: usize, n: usize, items: &[u16], scores: &[u16], places: &mut [u16]) -> bool
-    requires { ⌜ Listed i n (now items) (now scores) (now places) ⌝ }
-    ensures { λ r. ⌜ (r ≡ true → ListPasses i n (now (items .entry)) (now (scores .entry)) (now (places .exit))) ⌝ }
-{
-    let from = i * n;
-    let to = from + n;
-    if reaches(&items[from..to], n as u16) {
-        return false;
-    }
-    if rises(&scores[from..to]) {
-        return false;
-    }
-    clear(places, n);
-    note_items(&items[from..to], places);
-    if has_zero(places) {
-        return false;
-    }
-    true
-}
-
-// Tests 7, 8, 9 position by position in list i. Each item that passes is noted at its own place of `places`, so an item that stood
+// Tests 7, 8, 9 position by position in list i, counted from 0. Each item that passes is noted at its own place of `places`, so an item that stood
 // earlier is seen there.
-fn walk_list(i: usize, n: usize, items: &[u16], scores: &[u16], places: &mut [u16]) -> Checked
+pub fn walk_list(i: usize, n: usize, items: &[u16], scores: &[u16], places: &mut [u16]) -> Checked
     requires { ⌜ Listed i n (now items) (now scores) (now places) ⌝ }
     ensures { λ r. ⌜ ListNoted i n (now (items .entry)) (now (scores .entry)) r (now (places .exit)) ⌝ }
 {
@@ -123,16 +96,4 @@ fn walk_list(i: usize, n: usize, items: &[u16], scores: &[u16], places: &mut [u1
         places[item] = p as u16;
     }
     passed()
-}
-
-// List i, counted from 0: tested, and each item's position noted at its own place. Most lists pass, so a walk is the way of a damaged
-// one alone.
-pub fn note_list(i: usize, n: usize, items: &[u16], scores: &[u16], places: &mut [u16]) -> Checked
-    requires { ⌜ Listed i n (now items) (now scores) (now places) ⌝ }
-    ensures { λ r. ⌜ ListNoted i n (now (items .entry)) (now (scores .entry)) r (now (places .exit)) ⌝ }
-{
-    if note_whole(i, n, items, scores, places) {
-        return passed();
-    }
-    walk_list(i, n, items, scores, places)
 }

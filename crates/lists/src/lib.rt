@@ -1,9 +1,9 @@
 // The list check and the place table. List by list, each item's position is noted in the work slice, or the first refusal in reading
 // order is found.
 use entries::clear;
-use entries::note_list;
 use entries::passed;
 use entries::refusal;
+use passing::note_list;
 ghost use mathlib.Core.Path.{_≡_};
 ghost use Rattle.model.specs.Refusals.{wrongSize};
 ghost use Rattle.entries.specs.Contracts.{poses};

@@ -7,7 +7,8 @@ use lib.ListN.{length, getD, length-set, length-replicate}
 use native.Mathlib.Omega.{arith}
 use Rattle.model.specs.Given.{Poses, item, score}
 use Rattle.entries.specs.Contracts.{poses}
-use Rattle.entries.proofs.Walk.{Walked, walk-starts, walk-goes-on, refused-7, refused-8, refused-9, cleared, list-refused, list-passed, walk-passes}
+use Rattle.entries.specs.Noted.{cleared, list-refused, list-passed}
+use Rattle.entries.proofs.Walk.{Walked, walk-starts, walk-goes-on, refused-7, refused-8, refused-9, walk-passes}
 use Rattle.entries.proofs.walk_list.Statement.{statement}
 use Rattle.entries.proofs.walk_list.Tie as tie
 

@@ -1,14 +1,14 @@
--- `entries::note_whole` meets its contract: `whole-passes`, by what each sweep found.
+-- `passing::note_whole` meets its contract: `whole-passes`, by what each sweep found.
 -- Assumes nothing.
 use mathlib.Core.Path.{sym, ap, _∙_}
 use mathlib.Core.Bool.{false≢true}
 use lib.ListN.{length, length-replicate}
 use borrow.Author.Needs.{needs}
 use Rattle.laws.specs.Lists.{row-length}
-use Rattle.entries.proofs.Walk.{cleared}
-use Rattle.entries.proofs.Whole.{own-length, own-small, whole-passes}
-use Rattle.entries.proofs.note_whole.Statement.{statement}
-use Rattle.entries.proofs.note_whole.Tie as tie
+use Rattle.entries.specs.Noted.{cleared}
+use Rattle.passing.proofs.Whole.{own-length, own-small, whole-passes}
+use Rattle.passing.proofs.note_whole.Statement.{statement}
+use Rattle.passing.proofs.note_whole.Tie as tie
 
 mul-from : tie.Need-mul-from
 mul-from c = search needs

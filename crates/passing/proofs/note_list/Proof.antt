@@ -1,9 +1,9 @@
--- `entries::note_list` meets its contract: a list passes as a whole, or is walked.
+-- `passing::note_list` meets its contract: a list passes as a whole, or is walked.
 -- Assumes nothing.
 use borrow.Author.Needs.{needs}
-use Rattle.entries.proofs.Walk.{list-passed}
-use Rattle.entries.proofs.note_list.Statement.{statement}
-use Rattle.entries.proofs.note_list.Tie as tie
+use Rattle.entries.specs.Noted.{list-passed}
+use Rattle.passing.proofs.note_list.Statement.{statement}
+use Rattle.passing.proofs.note_list.Tie as tie
 
 note-whole-requires : tie.Need-note-whole-requires
 note-whole-requires c κs = search needs

@@ -21,8 +21,8 @@ use Rattle.laws.specs.Tests.{some-not}
 use Rattle.laws.specs.Lists.{row-at, row-same}
 use Rattle.laws.specs.Verdicts.{first-refusal-all}
 use Rattle.laws.specs.Marks.{noted, all-noted}
 use Rattle.entries.specs.Contracts.{poses, ListPasses}
-use Rattle.entries.proofs.Walk.{noted-passes}
+use Rattle.entries.specs.Noted.{noted-passes}
 
 -- no score is above the one before it
 never-rises : (s : Poses) (i : ℕ) → ((p : ℕ) → suc p < s .n → score s i (suc p) ≤ score s i p) → (p : ℕ) → p < s .n → rises s i p ≡ false
