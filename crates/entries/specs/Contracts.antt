@@ -1,7 +1,7 @@
 -- The records that the contracts of `entries` cite.
 --     poses, valueOf         the pose set that is lent; an answer's three numbers, as the model tells them
---     Listed, ListNoted      what `note_list` asks and promises, of one list
---     ListPasses             what `note_whole` promises where it answers true
+--     Listed, ListNoted      what `walk_list` asks and promises, of one list, and `note_list` of the crate `passing` too
+--     ListPasses             a list that passes, its items noted
 -- Assumes nothing.
 use mathlib.Core.Path.{_≡_}
 use mathlib.Core.List.{List}

@@ -1,4 +1,5 @@
-// One list of the list check, walked: its entries are looked at in reading order until one is refused, and each item's position is noted.
+// One list of the list check, walked: its entries are looked at in reading order until one is refused, and each item's position is
+// noted.
 ghost use mathlib.Core.Path.{_≡_};
 ghost use mathlib.Core.List.{_++_};
 ghost use Prim.Native.Nat.{_+_, _≤_, _<_};
@@ -67,8 +68,8 @@ pub fn wide(x: u16) -> usize
     x as usize
 }
 
-// Tests 7, 8, 9 position by position in list i, counted from 0. Each item that passes is noted at its own place of `places`, so an item that stood
-// earlier is seen there.
+// Tests 7, 8, 9 position by position in list i, counted from 0. Each item that passes is noted at its own place of `places`, so an
+// item that stood earlier is seen there.
 pub fn walk_list(i: usize, n: usize, items: &[u16], scores: &[u16], places: &mut [u16]) -> Checked
     requires { ⌜ Listed i n (now items) (now scores) (now places) ⌝ }
     ensures { λ r. ⌜ ListNoted i n (now (items .entry)) (now (scores .entry)) r (now (places .exit)) ⌝ }

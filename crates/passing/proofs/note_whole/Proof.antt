@@ -2,6 +2,7 @@
 -- Assumes nothing.
 use mathlib.Core.Path.{sym, ap, _∙_}
 use mathlib.Core.Bool.{false≢true}
+use native.Mathlib.Omega.{arith}
 use lib.ListN.{length, length-replicate}
 use borrow.Author.Needs.{needs}
 use Rattle.laws.specs.Lists.{row-length}
@@ -85,7 +86,7 @@ note-items-requires c κs =
     let long = ap length zeros ∙ length-replicate n 0 in
     let short = own-length i n items reach in
     record {
-      few = rw short (at-start .pre .n-most);
+      few = omega (arith, short, at-start .pre .n-most);
       placed = λ q l. rw long (own-small i n items reach none-reaches q (rw short at l));
       empty = rw long zeros;
     }
