@@ -148,7 +148,9 @@ static void time(const struct function *f)
 {
     enum { RUNS = 100 };
     const double run = 0.001;
-    int calls = 1 + (int)(run / seconds_of(f, 1));
+    int calls = 1;
+    while (seconds_of(f, calls) < run)
+        calls *= 2;
     double least = seconds_of(f, calls);
     for (int i = 1; i < RUNS; i++) {
         double now = seconds_of(f, calls);
