@@ -146,7 +146,7 @@ static double seconds_of(const struct function *f, int calls)
 
 static void time(const struct function *f)
 {
-    enum { RUNS = 100 };
+    enum { RUNS = 20 };
     const double run = 0.001;
     int calls = 1;
     while (seconds_of(f, calls) < run)

@@ -41,10 +41,45 @@ pub fn check_lists(m: usize, n: usize, items: &[u16], scores: &[u16], work: &mut
     checked
 }
 
+/// Most sets pass, so a walk is the way of a damaged one alone.
 fn note_lists(n: usize, items: &[u16], scores: &[u16], work: &mut [u16]) -> Checked {
+    if note_whole(n, items, scores, work) {
+        return Checked::default();
+    }
+    walk_lists(n, items, scores, work)
+}
+
+/// Notes lists that pass, by sweeps over the whole of them, none of which ends early.
+fn note_whole(n: usize, items: &[u16], scores: &[u16], work: &mut [u16]) -> bool {
+    let greatest = items.iter().copied().fold(0, u16::max);
+    if n <= usize::from(greatest) {
+        return false;
+    }
+    work.fill(0);
+    let lists = items.chunks_exact(n).zip(scores.chunks_exact(n));
+    for ((items, scores), places) in lists.zip(work.chunks_exact_mut(n)) {
+        if rises(scores) {
+            return false;
+        }
+        for (before, &item) in items.iter().enumerate() {
+            places[usize::from(item)] = before as u16 + 1;
+        }
+    }
+    !work
+        .iter()
+        .fold(false, |found, &place| found | (place == 0))
+}
+
+fn rises(scores: &[u16]) -> bool {
+    scores
+        .windows(2)
+        .fold(false, |found, pair| found | (pair[0] < pair[1]))
+}
+
+fn walk_lists(n: usize, items: &[u16], scores: &[u16], work: &mut [u16]) -> Checked {
     let lists = items.chunks_exact(n).zip(scores.chunks_exact(n));
     for (list, ((items, scores), places)) in lists.zip(work.chunks_exact_mut(n)).enumerate() {
-        if let Some((number, position)) = note_list(items, scores, places) {
+        if let Some((number, position)) = walk_list(items, scores, places) {
             return Checked {
                 number,
                 list: list as u32 + 1,
@@ -55,36 +90,7 @@ fn note_lists(n: usize, items: &[u16], scores: &[u16], work: &mut [u16]) -> Chec
     Checked::default()
 }
 
-/// The first refusal of a list and its position, from 1. Most lists pass, so a walk is the way of a damaged one alone.
-fn note_list(items: &[u16], scores: &[u16], places: &mut [u16]) -> Option<(u32, u32)> {
-    if note_whole(items, scores, places) {
-        return None;
-    }
-    walk_list(items, scores, places)
-}
-
-/// Notes a list that passes, by sweeps over the whole of it, none of which ends early.
-fn note_whole(items: &[u16], scores: &[u16], places: &mut [u16]) -> bool {
-    let limit = places.len() as u16;
-    let reaches = items
-        .iter()
-        .fold(false, |found, &item| found | (limit <= item));
-    let rises = scores
-        .windows(2)
-        .fold(false, |found, pair| found | (pair[0] < pair[1]));
-    if reaches || rises {
-        return false;
-    }
-    places.fill(0);
-    for (before, &item) in items.iter().enumerate() {
-        places[usize::from(item)] = before as u16 + 1;
-    }
-    !places
-        .iter()
-        .fold(false, |found, &place| found | (place == 0))
-}
-
-/// Each item that passes is noted at its own place.
+/// The first refusal of a list and its position, from 1. Each item that passes is noted at its own place.
 fn walk_list(items: &[u16], scores: &[u16], places: &mut [u16]) -> Option<(u32, u32)> {
     places.fill(0);
     let mut before = u16::MAX;

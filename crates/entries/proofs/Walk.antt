@@ -3,7 +3,7 @@
 --     Walked             after p positions: the notes, no refusal so far, the score before
 --     walk-starts, walk-goes-on                  at the first position; past one more
 --     refused-7, refused-8, refused-9            the refusal that is met at position p
---     walk-passes                                a list that passes, by a walk to its end
+--     walk-passes                                what is promised of a list that passes, by a walk to its end
 -- Assumes nothing.
 use mathlib.Core.Path.{_≡_, refl, sym, ap, _∙_}
 use mathlib.Core.Bool.{true, false}
@@ -17,11 +17,13 @@ use borrow.Author.Tests.{le-leb, lt-leb, lt-ltb, le-ltb, eq-eqb, ne-eqb, not-fal
 use Rattle.model.specs.Words.{row}
 use Rattle.model.specs.Given.{Poses, item, score}
 use Rattle.model.specs.Refusals.{accepted, refused, notItem, stoodEarlier, rises, standing, fault, firstRefusal, inList}
+use Rattle.model.specs.Answers.{told}
 use Rattle.laws.specs.Lists.{row-at, row-zeros}
 use Rattle.laws.specs.Verdicts.{first-refusal-at}
 use Rattle.laws.specs.Marks.{noted, noted-store, noted-free}
-use Rattle.entries.specs.Contracts.{poses, ListPasses}
-use Rattle.entries.specs.Noted.{noted-passes}
+use Rattle.entries.specs.declared.Checked.{Checked}
+use Rattle.entries.specs.Contracts.{poses, valueOf, ListNoted}
+use Rattle.entries.proofs.Noted.{list-passed}
 
 -- the score before position p of scores g; no score is above 65,535, so the first position never rises
 unfoldable pub scoreBefore : (ℕ → ℕ) → ℕ → ℕ
@@ -91,7 +93,7 @@ module _ (s : Poses) (i : ℕ) where
               before-is = rw add-one;
             }
 
-pub walk-passes : {i n before : ℕ} {items scores after : List ℕ} → Walked (poses 0 n items scores) i after before n
-    → ListPasses i n items scores after
+pub walk-passes : {i n before : ℕ} {items scores after : List ℕ} {r : Checked} → valueOf r ≡ told accepted
+    → Walked (poses 0 n items scores) i after before n → ListNoted i n items scores r after
 unfolding inList
-walk-passes w = noted-passes (w .none-refused) (w .notes-are)
+walk-passes says w = list-passed says (w .none-refused) (w .notes-are)

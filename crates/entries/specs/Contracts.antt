@@ -1,7 +1,6 @@
 -- The records that the contracts of `entries` cite.
 --     poses, valueOf         the pose set that is lent; an answer's three numbers, as the model tells them
---     Listed, ListNoted      what `walk_list` asks and promises, of one list, and `note_list` of the crate `passing` too
---     ListPasses             a list that passes, its items noted
+--     Listed, ListNoted      what `walk_list` asks and promises, of one list
 -- Assumes nothing.
 use mathlib.Core.Path.{_≡_}
 use mathlib.Core.List.{List}
@@ -28,11 +27,6 @@ pub record Listed (i n : ℕ) (items scores lent : List ℕ) : Type 0 where
   pub items-reach : i * n + n ≤ length items
   pub scores-reach : i * n + n ≤ length scores
   pub places-lent : length lent ≡ n
-
--- List i passes, and each item's position is noted. How many lists there are does not matter to one of them
-pub record ListPasses (i n : ℕ) (items scores after : List ℕ) : Type 0 where
-  pub passes : (m : ℕ) → inList (poses m n items scores) i ≡ accepted
-  pub notes : (m : ℕ) → after ≡ row (λ d. place (poses m n items scores) i d + 1) n
 
 -- List i is tested, and where it passes each item's position is noted. How many lists there are does not matter to one of them
 pub record ListNoted (i n : ℕ) (items scores : List ℕ) (r : Checked) (after : List ℕ) : Type 0 where

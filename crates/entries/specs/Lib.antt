@@ -1,5 +1,5 @@
 -- One list of the list check.
 --     Contracts      the records that the functions' contracts cite
---     Noted          what is promised of one list, from its verdict
+--     Cleared        a slice that is cleared
 pub mod Contracts
-pub mod Noted
+pub mod Cleared

@@ -6,6 +6,7 @@
 --     Placed, placed   the work slice holds each item's position in each list, from one
 --     Passed, passed   the three tests at a position, once they are passed
 --     list-distinct, stands, noted-place     of one list that passes: its items are distinct, each stands at its place, its note is that
+--     falls-by-one     and no score is above the one before it
 -- Assumes nothing.
 use mathlib.Core.Path.{_≡_, refl, sym, _∙_}
 use mathlib.Core.Bool.{Bool, false, not, _&&_}
@@ -122,7 +123,7 @@ module _ (s : Poses) (i : ℕ) (e : inList s i ≡ accepted) where
       noted-last (item s i) (s .n) (place s i d) d list-distinct (at .0) (at .1)
 
   -- a score is at most the one before it, and so at most any before it
-  falls-by-one : (p : ℕ) → suc p < s .n → score s i (suc p) ≤ score s i p
+  pub falls-by-one : (p : ℕ) → suc p < s .n → score s i (suc p) ≤ score s i p
   unfolding rises
   falls-by-one p hp =
       let r : (ltb 0 (suc p) && ltb (score s i (suc p - 1)) (score s i (suc p))) ≡ false = passed s i (suc p) e hp .not-rising in

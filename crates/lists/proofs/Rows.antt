@@ -2,7 +2,7 @@
 --     RowsNoted          after i lists: no refusal so far, and their rows of the work slice are noted
 --     rows-start, rows-go-on, rows-end       with no list; past one more; at the last
 --     list-accepted      an answer of number 0 accepts the list
---     rows-stop, rows-done       what `note_lists` promises, from the refusal of a list and from all lists passed
+--     rows-stop, rows-done       what `walk_lists` promises, from the refusal of a list and from all lists passed
 -- Assumes nothing.
 use mathlib.Core.Path.{_≡_, refl, sym, ap, _∙_}
 use mathlib.Core.List.{List, _++_}

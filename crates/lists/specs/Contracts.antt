@@ -1,6 +1,6 @@
 -- The records that the contracts of `lists` cite.
 --     ListsChecked           what `check_lists` promises: the answer, and the work slice as it leaves it
---     Lying, ListsNoted      what `note_lists` asks and promises, of all lists
+--     Lying, ListsNoted      what `note_lists` asks and promises, of all lists, and its walk too
 -- Assumes nothing.
 use mathlib.Core.Path.{_≡_}
 use mathlib.Core.List.{List}
@@ -21,6 +21,7 @@ pub record ListsChecked (s : Poses) (work : List ℕ) (r : Checked) (after : Lis
 -- m lists of n entries lie within both slices and the work slice
 pub record Lying (s : Poses) (work : List ℕ) : Type 0 where
   pub m-most : s .m ≤ 8
+  pub n-least : 1 ≤ s .n
   pub n-most : s .n ≤ 1024
   pub items-long : s .m * s .n ≤ length (s .items)
   pub scores-long : s .m * s .n ≤ length (s .scores)

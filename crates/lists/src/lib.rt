@@ -1,9 +1,10 @@
-// The list check and the place table. List by list, each item's position is noted in the work slice, or the first refusal in reading
+// The list check and the place table: each item's position in each list is noted in the work slice, or the first refusal in reading
 // order is found.
 use entries::clear;
 use entries::passed;
 use entries::refusal;
-use passing::note_list;
+use entries::walk_list;
+use passing::note_whole;
 ghost use mathlib.Core.Path.{_≡_};
 ghost use Rattle.model.specs.Refusals.{wrongSize};
 ghost use Rattle.entries.specs.Contracts.{poses};
@@ -27,7 +28,7 @@ pub fn wrong_size(m: usize, n: usize) -> bool
 }
 
 // List by list: each has its own row of the work slice. The first refusal ends it.
-fn note_lists(m: usize, n: usize, items: &[u16], scores: &[u16], work: &mut [u16]) -> Checked
+fn walk_lists(m: usize, n: usize, items: &[u16], scores: &[u16], work: &mut [u16]) -> Checked
     requires { ⌜ Lying (poses m n (now items) (now scores)) (now work) ⌝ }
     ensures { λ r. ⌜ ListsNoted (poses m n (now (items .entry)) (now (scores .entry))) (now (work .entry)) r
         (now (work .exit)) ⌝ }
@@ -36,7 +37,7 @@ fn note_lists(m: usize, n: usize, items: &[u16], scores: &[u16], work: &mut [u16
     while i < m {
         let from = i * n;
         let to = from + n;
-        let found = note_list(i, n, items, scores, &mut work[from..to]);
+        let found = walk_list(i, n, items, scores, &mut work[from..to]);
         let number = found.number;
         if number != 0 {
             return found;
@@ -44,6 +45,19 @@ fn note_lists(m: usize, n: usize, items: &[u16], scores: &[u16], work: &mut [u16
         i += 1;
     }
     passed()
+}
+
+// All lists at once where they pass. Where they do not, a walk finds the refusal.
+fn note_lists(m: usize, n: usize, items: &[u16], scores: &[u16], work: &mut [u16]) -> Checked
+    requires { ⌜ Lying (poses m n (now items) (now scores)) (now work) ⌝ }
+    ensures { λ r. ⌜ ListsNoted (poses m n (now (items .entry)) (now (scores .entry))) (now (work .entry)) r
+        (now (work .exit)) ⌝ }
+{
+    let size = m * n;
+    if note_whole(m, n, items, scores, &mut work[0..size]) {
+        return passed();
+    }
+    walk_lists(m, n, items, scores, work)
 }
 
 // The list check by itself: tests 1, 5 and 6, then 7 to 9 at each position. After 1, 5, 6 the work slice

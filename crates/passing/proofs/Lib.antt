@@ -1,3 +1,5 @@
 -- Laws that the proofs of this crate cite.
---     Whole    one list, by sweeps over the whole of it
+--     Rows     the sweeps list by list
+--     Whole    all lists at once
+mod Rows
 mod Whole

@@ -1,28 +1,30 @@
--- One list, by sweeps over the whole of it: where no item reaches n, no score rises and no place is left empty, the list passes.
---     own                    a list's own part of a slice, which the sweeps are lent
---     own-length, own-at     its length; its entries
---     own-small              where none reaches n, each item has a place
---     whole-passes           what `note_whole` promises where it answers true
+-- All lists at once: where no entry is n or more, no score rises and no place is left empty, all lists pass.
+--     front                  the first entries of a slice, which a sweep is lent
+--     all-small              where the greatest is below n, each entry is an item
+--     all-pass               what `note_whole` promises where it answers true
+--     not-great, not-rising, not-empty       where all lists pass, no sweep finds anything
 -- Assumes nothing.
 use mathlib.Core.Path.{_≡_, refl, sym, _∙_}
-use mathlib.Core.Bool.{false}
+use mathlib.Core.Bool.{true, false}
 use mathlib.Core.List.{List}
 use Prim.Native.Nat.{ℕ, zero, suc, _+_, _-_, _*_, _≤_, _<_}
-use native.Mathlib.Numerals.{add-one, sub-one}
+use native.Mathlib.Numerals.{sub-one}
 use native.Mathlib.Omega.{arith}
-use lib.Dec.{eqb, leb, ltb}
+use lib.Dec.{eqb, ltb}
 use lib.ListN.{length, getD, take, drop, length-take, length-drop}
 use lib.Seq.{getD-take, getD-drop}
-use borrow.Author.Tests.{leb-false, ltb-false, lt-leb, lt-ltb, le-ltb}
-use Rattle.model.specs.Words.{someBelow, row}
-use Rattle.model.specs.Given.{Poses, item, score}
-use Rattle.model.specs.Refusals.{accepted, notItem, stoodEarlier, rises, standing, fault, inList}
-use Rattle.laws.specs.Tests.{some-not}
-use Rattle.laws.specs.Lists.{row-at, row-same}
-use Rattle.laws.specs.Verdicts.{first-refusal-all}
+use borrow.Author.Tests.{eqb-true, ltb-true, ltb-false, lt-leb, lt-ltb, le-ltb}
+use Rattle.model.specs.Words.{someBelow, table}
+use Rattle.model.specs.Given.{Poses, item, score, place}
+use Rattle.model.specs.Refusals.{accepted, notItem, stoodEarlier, rises, standing, fault, inList, inLists}
+use Rattle.model.specs.Answers.{places}
+use Rattle.laws.specs.Tests.{some-found, some-not}
+use Rattle.laws.specs.Lists.{table-length, table-at, table-room, table-same, place-of}
+use Rattle.laws.specs.Verdicts.{first-refusal-all, first-refusal-none}
 use Rattle.laws.specs.Marks.{noted, all-noted}
-use Rattle.entries.specs.Contracts.{poses, ListPasses}
-use Rattle.entries.specs.Noted.{noted-passes}
+use Rattle.laws.specs.Accepted.{passed, noted-place, falls-by-one}
+use Rattle.sweeps.specs.Contracts.{Greatest}
+use Rattle.passing.specs.Contracts.{Rising, Swept, WholeNoted}
 
 -- no score is above the one before it
 never-rises : (s : Poses) (i : ℕ) → ((p : ℕ) → suc p < s .n → score s i (suc p) ≤ score s i p) → (p : ℕ) → p < s .n → rises s i p ≡ false
@@ -41,52 +43,82 @@ passes s i small falls every =
     first-refusal-all (fault s i) (s .n)
     (λ p l. rw (lt-leb (s .n) (item s i p) (small p l), distinct .new p l, never-rises s i falls p l))
 
--- what is noted depends on the items that were passed alone
-noted-alike : (f g : ℕ → ℕ) (p d : ℕ) → ((q : ℕ) → q < p → f q ≡ g q) → noted f p d ≡ noted g p d
-unfolding noted
-noted-alike f g zero d same = refl
-noted-alike f g (suc p) d same = rw (same p (omega arith), noted-alike f g p d (λ q l. same q (omega arith)))
+-- the first entries of a slice
+abbrev pub front : ℕ → List ℕ → List ℕ
+front size l = take (size - 0) (drop 0 l)
 
--- a list's own part of a slice
-abbrev pub own : ℕ → ℕ → List ℕ → List ℕ
-own i n l = take (i * n + n - i * n) (drop (i * n) l)
+front-length : (size : ℕ) (l : List ℕ) → size ≤ length l → length (front size l) ≡ size
+front-length size l reach = simp (length-take, length-drop) (omega arith)
 
-module _ (i n : ℕ) (l : List ℕ) (reach : i * n + n ≤ length l) where
-  pub own-length : length (own i n l) ≡ n
-  own-length = simp (length-take, length-drop) (omega arith)
+front-at : (size q : ℕ) (l : List ℕ) → q < size → getD (front size l) q 0 ≡ getD l q 0
+front-at size q l h = let inside : q < size - 0 = omega arith in rw (getD-take, getD-drop)
 
-  pub own-at : (q : ℕ) → q < n → getD (own i n l) q 0 ≡ getD l (i * n + q) 0
-  own-at q h = let inside : q < i * n + n - i * n = omega arith in rw (getD-take, getD-drop)
+module _ (s : Poses) where
+  -- where the greatest is below n, each entry is an item
+  pub all-small : {most : ℕ} → s .m * s .n ≤ length (s .items) → Greatest (front (s .m * s .n) (s .items)) most → most < s .n
+      → (i p : ℕ) → i < s .m → p < s .n → item s i p < s .n
+  unfolding item
+  all-small {most} long found below i p hi hp =
+      let size = s .m * s .n in
+      let here : i * s .n + p < size = omega (arith, table-room i (s .m) (s .n) hi) in
+      let none = sym (found .above most) ∙ le-ltb most most (omega arith) in
+      let not-above =
+      some-not (λ q. ltb most (getD (front size (s .items)) q 0)) (length (front size (s .items))) (i * s .n + p) none
+      (rw (front-length size (s .items) long) here) in
+      omega (arith, ltb-false most (getD (s .items) (i * s .n + p) 0) (rw (front-at size (i * s .n + p) (s .items) here) at not-above))
 
-  pub own-small : someBelow (λ q. leb n (getD (own i n l) q 0)) (length (own i n l)) ≡ false → (q : ℕ) → q < n → getD (own i n l) q 0 < n
-  own-small none q h =
-      leb-false n (getD (own i n l) q 0) (some-not (λ p. leb n (getD (own i n l) p 0)) (length (own i n l)) q none (rw own-length h))
+  pub all-pass : {after : List ℕ} → ((i p : ℕ) → i < s .m → p < s .n → item s i p < s .n) → Swept s after
+      → someBelow (λ q. eqb (getD after q 0) 0) (length after) ≡ false → (inLists s ≡ accepted) × (after ≡ places s)
+  unfolding inLists places
+  all-pass {after} small swept none-empty =
+      let notes : ℕ → ℕ → ℕ = λ i. noted (item s i) (s .n) in
+      let long : length after ≡ s .m * s .n = rw (swept .notes) (table-length notes (s .n) (s .m)) in
+      let every : (i d : ℕ) → i < s .m → d < s .n → eqb (notes i d) 0 ≡ false = λ i d hi hd.
+      let here : i * s .n + d < length after = rw long (omega (arith, table-room i (s .m) (s .n) hi)) in
+      rw (← (table-at notes (s .n) (s .m) i d 0 hi hd), ← (swept .notes)) (some-not (λ q. eqb (getD after q 0) 0) (length after) (i * s .n + d) none-empty here) in
+      let each : (i : ℕ) → i < s .m → inList s i ≡ accepted = λ i hi.
+      passes s i (λ p. small i p hi) (λ p. swept .falls i p hi) (λ d. every i d hi) in (
+        first-refusal-all (inList s) (s .m) each,
+        swept .notes ∙ table-same notes (λ i d. place s i d + 1) (s .n) (s .m) (λ i d hi hd. noted-place s i (each i hi) d hd),
+      )
 
-  own-falls : someBelow (λ q. ltb (getD (own i n l) q 0) (getD (own i n l) (q + 1) 0)) (length (own i n l) - 1) ≡ false
-      → (q : ℕ) → suc q < n → getD l (i * n + suc q) 0 ≤ getD l (i * n + q) 0
-  own-falls none q h =
-      let long = own-length in
-      let inside : q < length (own i n l) - 1 = omega arith in
-      let level = some-not (λ p. ltb (getD (own i n l) p 0) (getD (own i n l) (p + 1) 0)) (length (own i n l) - 1) q none inside in
-      let falls : getD (own i n l) (q + 1) 0 ≤ getD (own i n l) q 0 = ltb-false (getD (own i n l) q 0) (getD (own i n l) (q + 1) 0) level in
-      let now : getD l (i * n + q) 0 ≡ getD (own i n l) q 0 = sym (own-at q (omega arith)) in
-      let next : getD l (i * n + suc q) 0 ≡ getD (own i n l) (q + 1) 0 = rw (add-one q) (sym (own-at (suc q) h)) in
-      rw (now, next) falls
+  -- where all lists pass, no sweep finds anything
+  module _ (all : inLists s ≡ accepted) where
+    each-passes : (i : ℕ) → i < s .m → inList s i ≡ accepted
+    unfolding inLists
+    each-passes i hi = first-refusal-none (inList s) (s .m) i all hi
 
-module _ (i n : ℕ) (items scores : List ℕ) (items-reach : i * n + n ≤ length items) (scores-reach : i * n + n ≤ length scores) where
-  pub whole-passes : {after : List ℕ} → someBelow (λ q. leb n (getD (own i n items) q 0)) (length (own i n items)) ≡ false
-      → someBelow (λ q. ltb (getD (own i n scores) q 0) (getD (own i n scores) (q + 1) 0)) (length (own i n scores) - 1) ≡ false
-      → after ≡ row (noted (λ q. getD (own i n items) q 0) n) n → someBelow (λ q. eqb (getD after q 0) 0) n ≡ false
-      → ListPasses i n items scores after
-  unfolding item score
-  whole-passes {after} none-reaches none-rises notes none-empty =
-      let s = poses 0 n items scores in
-      let same : (q : ℕ) → q < n → getD (own i n items) q 0 ≡ item s i q = own-at i n items items-reach in
-      let noted-own : after ≡ row (noted (item s i) n) n =
-      notes
-      ∙ row-same (noted (λ q. getD (own i n items) q 0) n) (noted (item s i) n) n
-      (λ d _. noted-alike (λ q. getD (own i n items) q 0) (item s i) n d same) in
-      let small : (p : ℕ) → p < n → item s i p < n = λ p l. rw (← (same p l)) (own-small i n items items-reach none-reaches p l) in
-      let every : (d : ℕ) → d < n → eqb (noted (item s i) n d) 0 ≡ false = λ d l.
-      rw (← (row-at (noted (item s i) n) n d 0 l), ← noted-own) (some-not (λ q. eqb (getD after q 0) 0) n d none-empty l) in
-      noted-passes (passes s i small (own-falls i n scores scores-reach none-rises) every) noted-own
+    pub not-great : {most : ℕ} → 1 ≤ s .n → s .m * s .n ≤ length (s .items) → Greatest (front (s .m * s .n) (s .items)) most → s .n ≤ most → ⊥
+    unfolding item
+    not-great {most} some long found great =
+        let size = s .m * s .n in
+        let bar = s .n - 1 in
+        let there = some-found (λ q. ltb bar (getD (front size (s .items)) q 0)) (length (front size (s .items)))
+        (sym (found .above bar) ∙ lt-ltb bar most (omega arith)) in
+        let q = there .0 in
+        let inside : q < size = omega (arith, there .1, front-length size (s .items) long) in
+        let where-it-is = place-of (s .n) (s .m) q inside in
+        let i = where-it-is .0 in
+        let p = where-it-is .1 in
+        let at : q ≡ i * s .n + p = where-it-is .4 in
+        let above : bar < getD (s .items) q 0 =
+        rw (front-at size q (s .items) inside) at (ltb-true bar (getD (front size (s .items)) q 0) (there .2)) in
+        omega (arith, rw at at above, passed s i p (each-passes i (where-it-is .2)) (where-it-is .3) .is-item)
+
+    pub not-rising : Rising s → ⊥
+    not-rising up =
+        omega (arith, up .above, falls-by-one s (up .list) (each-passes (up .list) (up .list-small)) (up .position) (up .inside))
+
+    pub not-empty : {after : List ℕ} → Swept s after → someBelow (λ q. eqb (getD after q 0) 0) (length after) ≡ true → ⊥
+    not-empty {after} swept some =
+        let notes : ℕ → ℕ → ℕ = λ i. noted (item s i) (s .n) in
+        let long : length after ≡ s .m * s .n = rw (swept .notes) (table-length notes (s .n) (s .m)) in
+        let there = some-found (λ q. eqb (getD after q 0) 0) (length after) some in
+        let q = there .0 in
+        let where-it-is = place-of (s .n) (s .m) q (omega (arith, there .1, long)) in
+        let i = where-it-is .0 in
+        let d = where-it-is .1 in
+        let empty : getD (table notes (s .n) (s .m)) (i * s .n + d) 0 ≡ 0 =
+        rw (← (where-it-is .4), ← (swept .notes)) (eqb-true (getD after q 0) 0 (there .2)) in
+        let noted-here = table-at notes (s .n) (s .m) i d 0 (where-it-is .2) (where-it-is .3) in
+        omega (arith, empty, noted-here, noted-place s i (each-passes i (where-it-is .2)) d (where-it-is .3))

@@ -1,45 +1,47 @@
-// One list of the list check. Most lists pass, and one that does is swept as a whole; a damaged one is walked.
-use entries::Checked;
+// The lists of the list check, all at once. Most sets pass, and one that does is swept as a whole; only a damaged one needs a walk.
 use entries::clear;
-use entries::passed;
-use entries::walk_list;
+use sweeps::greatest;
 use sweeps::has_zero;
 use sweeps::note_items;
-use sweeps::reaches;
 use sweeps::rises;
-ghost use mathlib.Core.Path.{_≡_};
-ghost use mathlib.Core.Bool.{true};
-ghost use Rattle.entries.specs.Contracts.{Listed, ListPasses, ListNoted};
+ghost use Rattle.entries.specs.Contracts.{poses};
+ghost use Rattle.passing.specs.Contracts.{Lies, WholeNoted, Sweepable, RowsSwept};
 
-// Notes a list that passes, by sweeps over the whole of it: n items below n leave no place empty only if none stands twice. Where
-// it answers false the list is damaged, and a walk tells where.
-fn note_whole(i: usize, n: usize, items: &[u16], scores: &[u16], places: &mut [u16]) -> bool
-    requires { ⌜ Listed i n (now items) (now scores) (now places) ⌝ }
-    ensures { λ r. ⌜ (r ≡ true → ListPasses i n (now (items .entry)) (now (scores .entry)) (now (places .exit))) ⌝ }
+// Whether in one of the lists a score is above the one before it. Where in none, each list's items are noted in its own row.
+fn a_list_rises(m: usize, n: usize, items: &[u16], scores: &[u16], places: &mut [u16]) -> bool
+    requires { ⌜ Sweepable (poses m n (now items) (now scores)) (now places) ⌝ }
+    ensures { λ r. ⌜ RowsSwept (poses m n (now (items .entry)) (now (scores .entry))) r (now (places .exit)) ⌝ }
 {
-    let from = i * n;
-    let to = from + n;
-    if reaches(&items[from..to], n as u16) {
+    let mut i = 0;
+    while i < m {
+        let from = i * n;
+        let to = from + n;
+        if rises(&scores[from..to]) {
+            return true;
+        }
+        note_items(&items[from..to], &mut places[from..to]);
+        i += 1;
+    }
+    false
+}
+
+// Whether all lists pass, with their items noted: n items below n leave no place empty only if none stands twice. Where a list is
+// damaged, a walk tells where. The places are asked last, when the stores to them are done.
+pub fn note_whole(m: usize, n: usize, items: &[u16], scores: &[u16], places: &mut [u16]) -> bool
+    requires { ⌜ Lies (poses m n (now items) (now scores)) (now places) ⌝ }
+    ensures { λ r. ⌜ WholeNoted (poses m n (now (items .entry)) (now (scores .entry))) r (now (places .exit)) ⌝ }
+{
+    let size = m * n;
+    let most = greatest(&items[0..size]);
+    if n as u16 <= most {
         return false;
     }
-    if rises(&scores[from..to]) {
+    clear(places, size);
+    if a_list_rises(m, n, items, scores, places) {
         return false;
     }
-    clear(places, n);
-    note_items(&items[from..to], places);
     if has_zero(places) {
         return false;
     }
     true
-}
-
-// List i, counted from 0: tested, and each item's position noted at its own place.
-pub fn note_list(i: usize, n: usize, items: &[u16], scores: &[u16], places: &mut [u16]) -> Checked
-    requires { ⌜ Listed i n (now items) (now scores) (now places) ⌝ }
-    ensures { λ r. ⌜ ListNoted i n (now (items .entry)) (now (scores .entry)) r (now (places .exit)) ⌝ }
-{
-    if note_whole(i, n, items, scores, places) {
-        return passed();
-    }
-    walk_list(i, n, items, scores, places)
 }

@@ -1,25 +1,26 @@
 // Sweeps over a whole slice. None has a way out before the slice's end, so that the compiler can take several entries in one step.
 ghost use mathlib.Core.Path.{_≡_};
 ghost use Prim.Native.Nat.{_+_, _-_};
-ghost use lib.Dec.{eqb, leb, ltb};
+ghost use lib.Dec.{eqb, ltb};
 ghost use lib.ListN.{length, getD};
 ghost use Rattle.model.specs.Words.{someBelow, row};
 ghost use Rattle.laws.specs.Marks.{noted};
-ghost use Rattle.sweeps.specs.Contracts.{Clear};
+ghost use Rattle.sweeps.specs.Contracts.{Greatest, Clear};
 
-// Whether one of the numbers is `limit` or more.
-pub fn reaches(numbers: &[u16], limit: u16) -> bool
-    ensures { λ r. ⌜ r ≡ someBelow (λ q. leb limit (getD (now (numbers .entry)) q 0)) (length (now (numbers .entry))) ⌝ }
+// The greatest of the numbers, 0 where there is none.
+pub fn greatest(numbers: &[u16]) -> u16
+    ensures { λ r. ⌜ Greatest (now (numbers .entry)) r ⌝ }
 {
-    let mut found = false;
+    let mut most: u16 = 0;
     let mut q = 0;
     while q < numbers.len() {
-        if limit <= numbers[q] {
-            found = true;
+        let number = numbers[q];
+        if most < number {
+            most = number;
         }
         q += 1;
     }
-    found
+    most
 }
 
 // Whether one of the numbers is above the one before it.

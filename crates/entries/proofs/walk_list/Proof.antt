@@ -7,7 +7,8 @@ use lib.ListN.{length, getD, length-set, length-replicate}
 use native.Mathlib.Omega.{arith}
 use Rattle.model.specs.Given.{Poses, item, score}
 use Rattle.entries.specs.Contracts.{poses}
-use Rattle.entries.specs.Noted.{cleared, list-refused, list-passed}
+use Rattle.entries.specs.Cleared.{cleared}
+use Rattle.entries.proofs.Noted.{list-refused}
 use Rattle.entries.proofs.Walk.{Walked, walk-starts, walk-goes-on, refused-7, refused-8, refused-9, walk-passes}
 use Rattle.entries.proofs.walk_list.Statement.{statement}
 use Rattle.entries.proofs.walk_list.Tie as tie
@@ -215,7 +216,7 @@ returns-4 c =
     let at-loop = c .before .before in
     let at-start = c .before .before .before .before .before .before .before .before .before .before in
     let whole : at-loop .loop .p ≡ at-start .args .n = omega (arith, at-loop .loop .inv .1 .within) in
-    list-passed (c .passed .ensures) (walk-passes (rw whole at (at-loop .loop .inv .1)))
+    walk-passes (c .passed .ensures) (rw whole at (at-loop .loop .inv .1))
 
 pub walk-list-spec : {M : Type 1} → statement M
 walk-list-spec =

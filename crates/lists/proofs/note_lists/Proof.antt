@@ -1,198 +1,83 @@
--- `lists::note_lists` meets its contract. The loop's invariant: i lists have passed and their rows are noted (`RowsNoted`), and
--- the work slice has its length; the measure is how many lists are left.
+-- `lists::note_lists` meets its contract: the lists pass as a whole (`noted-whole`), or are walked (`noted-after`).
 -- Assumes nothing.
-use mathlib.Core.Path.{_≡_, refl, _∙_}
-use Prim.Native.Nat.{ℕ, _+_, _-_, _*_, _≤_, _<_}
+use mathlib.Core.Path.{_≡_}
+use Prim.Native.Nat.{_*_}
 use native.Mathlib.Omega.{arith}
 use lib.ListN.{length}
-use borrow.Rule.Slice.PartMut.{putMid, mid-len, same-len-mid}
-use Rattle.laws.specs.Lists.{table-room}
+use borrow.Author.Needs.{needs}
+use borrow.Rule.Slice.PartMut.{mid-len}
 use Rattle.entries.specs.Contracts.{poses}
-use Rattle.lists.proofs.Rows.{RowsNoted, rows-start, rows-go-on, rows-stop, rows-done, list-accepted}
+use Rattle.lists.proofs.Swept.{noted-whole, noted-after}
 use Rattle.lists.proofs.note_lists.Statement.{statement}
 use Rattle.lists.proofs.note_lists.Tie as tie
 
-abbrev Inv-loop : tie.InvT-loop
-Inv-loop m n items scores work₀ i₀ work i =
-    (length work ≡ length work₀) × RowsNoted (poses m n items scores) work₀ work i
-
-abbrev μ-loop : tie.MeasureT-loop
-μ-loop m n items scores work₀ i₀ work i = m - i
-
--- what is known in a turn: list i's row lies within all three slices
-record Here (i m n items scores work : ℕ) : Type 0 where
-  list-small : i < 8
-  row-in-items : i * n + n ≤ items
-  row-in-scores : i * n + n ≤ scores
-  row-in-work : i * n + n ≤ work
-  whole-in-work : m * n ≤ work
-
--- the function's entry, from a turn
-abbrev start : (c : tie.In-loop Inv-loop μ-loop) → tie.Start Inv-loop μ-loop
+-- the function's entry, once the sweeps are done
+abbrev start : (c : tie.After-note-whole) → tie.Start
 start c = c .before .before .before .before .before
 
-here : (c : tie.In-loop Inv-loop μ-loop)
-    → Here ((c .before) .loop .i) ((start c) .args .m) ((start c) .args .n) (length ((start c) .args .items .now))
-    (length ((start c) .args .scores .now)) (length ((c .before) .loop .work))
-here c =
-    let at-loop = c .before in
-    let at-start = c .before .before .before .before .before in
-    let room = table-room (at-loop .loop .i) (at-start .args .m) (at-start .args .n) (c .loop-test .taken) in
-    let lies = at-start .pre in
-    record {
-      list-small = omega (arith, lies .m-most, c .loop-test .taken);
-      row-in-items = omega (arith, lies .items-long);
-      row-in-scores = omega (arith, lies .scores-long);
-      row-in-work = omega (arith, lies .work-long, at-loop .loop .inv .0);
-      whole-in-work = omega (arith, lies .work-long, at-loop .loop .inv .0);
-    }
+-- the places come back as many as they were lent
+places-back : (c : tie.After-note-whole) → length (c .note-whole .last .1 .1 .1 .1 .0) ≡ start c .args .m * start c .args .n
+places-back c =
+    let a = start c .args in
+    omega (arith, c .note-whole .kept .1 .1 .1 .1 .0, mid-len 0 (a .m * a .n) (a .work .now) (start c .pre .work-long))
 
-loop-holds : tie.Need-loop-holds Inv-loop μ-loop
-loop-holds c =
-    let at-start = c .before .before .before in (
-      refl,
-      rows-start (poses (at-start .args .m) (at-start .args .n) (at-start .args .items .now) (at-start .args .scores .now))
-          (at-start .args .work .now),
-    )
+mul-size : tie.Need-mul-size
+mul-size c = search needs
 
-mul-from : tie.Need-mul-from Inv-loop μ-loop
-mul-from c =
-    let at-start = c .before .before .before .before .before in
-    omega (arith, here c, at-start .good)
+sub-note-whole : tie.Need-sub-note-whole
+sub-note-whole c = search needs
 
-add-to : tie.Need-add-to Inv-loop μ-loop
-add-to c =
-    let at-start = c .before .before .before .before .before in
-    omega (arith, here c, at-start .good)
+part-note-whole-start : tie.Need-part-note-whole-start
+part-note-whole-start c = search needs
 
-mul-note-list : tie.Need-mul-note-list Inv-loop μ-loop
-mul-note-list c =
-    let at-start = c .before .before .before .before .before in
-    omega (arith, here c, at-start .good)
+part-note-whole-end : tie.Need-part-note-whole-end
+part-note-whole-end c = search needs
 
-sub-note-list : tie.Need-sub-note-list Inv-loop μ-loop
-sub-note-list c = omega arith
+note-whole-requires : tie.Need-note-whole-requires
+note-whole-requires c κs = search needs
 
-part-note-list-start : tie.Need-part-note-list-start Inv-loop μ-loop
-part-note-list-start c = omega arith
+passed-requires : tie.Need-passed-requires
+passed-requires c κs = search needs
 
-part-note-list-end : tie.Need-part-note-list-end Inv-loop μ-loop
-part-note-list-end c = here c .row-in-work
+same-length : tie.Need-same-length
+same-length c = search needs
 
-note-list-requires : tie.Need-note-list-requires Inv-loop μ-loop
-note-list-requires c κs =
-    let in-turn = c .before in
-    let at-loop = c .before .before in
-    let at-start = c .before .before .before .before .before .before in
-    let known = here in-turn in
-    let from = at-loop .loop .i * at-start .args .n in
-    let part = mid-len from (from + at-start .args .n) (at-loop .loop .work) (known .row-in-work) in
-    record {
-      list-small = known .list-small;
-      n-most = at-start .pre .n-most;
-      items-reach = known .row-in-items;
-      scores-reach = known .row-in-scores;
-      places-lent = omega (arith, part);
-    }
-
--- the row comes back as long as it was lent, and so does the work slice
-row-back : (c : tie.After-note-list Inv-loop μ-loop)
-    → length (c .note-list .last .1 .1 .1 .1 .0) ≡ (c .before .before .before .before .before .before .before) .args .n
-row-back c =
-    let at-loop = c .before .before .before in
-    let at-start = c .before .before .before .before .before .before .before in
-    let in-turn = c .before .before in
-    let from = at-loop .loop .i * at-start .args .n in
-    omega (arith, c .note-list .kept .1 .1 .1 .1 .0, mid-len from (from + at-start .args .n) (at-loop .loop .work) (here in-turn .row-in-work))
-
-work-back : (c : tie.After-note-list Inv-loop μ-loop)
-    → length (putMid ((c .before .before .before) .loop .i * (c .before .before .before .before .before .before .before) .args .n)
-    ((c .before .before .before) .loop .i * (c .before .before .before .before .before .before .before) .args .n +
-    (c .before .before .before .before .before .before .before) .args .n - (c .before .before .before) .loop .i *
-    (c .before .before .before .before .before .before .before) .args .n) ((c .before .before .before) .loop .work)
-    (c .note-list .last .1 .1 .1 .1 .0)) ≡ length ((c .before .before .before .before .before .before .before) .args .work .now)
-work-back c =
-    let at-loop = c .before .before .before in
-    let at-start = c .before .before .before .before .before .before .before in
-    let from = at-loop .loop .i * at-start .args .n in
-    same-len-mid from (from + at-start .args .n - from) (at-loop .loop .work) (c .note-list .last .1 .1 .1 .1 .0) (c .note-list .kept .1 .1 .1 .1 .0)
-    ∙ at-loop .loop .inv .0
-
-same-length : tie.Need-same-length Inv-loop μ-loop
-same-length c =
-    let after-note-list = c .before .before .before in
-    work-back after-note-list
-
-returns : tie.Need-returns Inv-loop μ-loop
+returns : tie.Need-returns
 returns c =
-    let at-start = c .before .before .before .before .before .before .before .before .before .before in
-    let at-loop = c .before .before .before .before .before .before in
-    let after-note-list = c .before .before .before in
-    let in-turn = c .before .before .before .before .before in
-    let s = poses (at-start .args .m) (at-start .args .n) (at-start .args .items .now) (at-start .args .scores .now) in
-    rows-stop s (at-start .args .work .now) (at-loop .loop .inv .1) (after-note-list .note-list .last .1 .1 .1 .1 .0)
-    (in-turn .loop-test .taken) (after-note-list .note-list .ensures .answers (at-start .args .m)) (c .if1 .taken) (row-back after-note-list)
-    (here in-turn .whole-in-work)
+    let at-start = (c .before .before .before .before .before .before .before .before .before) in
+    let after-note-whole = (c .before .before .before .before) in
+    let then1 = (c .before) in
+    let a = at-start .args in
+    noted-whole (poses (a .m) (a .n) (a .items .now) (a .scores .now)) (a .work .now) (after-note-whole .note-whole .last .1 .1 .1 .1 .0)
+    (places-back after-note-whole) (at-start .pre .work-long) (c .passed .ensures) (rw (then1 .if1 .taken) at (after-note-whole .note-whole .ensures))
 
-add-i : tie.Need-add-i Inv-loop μ-loop
-add-i c =
-    let in-turn = c .before .before .before .before .before in
-    omega (arith, here in-turn)
+walk-lists-requires : tie.Need-walk-lists-requires
+walk-lists-requires c κs = search needs
 
-loop-less : tie.Need-loop-less Inv-loop μ-loop
-loop-less c =
-    let in-turn = c .before .before .before .before .before in
-    omega (arith, in-turn .loop-test .taken)
+same-length-2 : tie.Need-same-length-2
+same-length-2 c = search needs
 
-loop-again : tie.Need-loop-again Inv-loop μ-loop
-loop-again c =
-    let at-start = c .before .before .before .before .before .before .before .before .before .before in
-    let after-note-list = c .before .before .before in
-    let at-loop = c .before .before .before .before .before .before in
-    let in-turn = c .before .before .before .before .before in
-    let s = poses (at-start .args .m) (at-start .args .n) (at-start .args .items .now) (at-start .args .scores .now) in
-    let promise = after-note-list .note-list .ensures in
-    let passes = list-accepted s (at-start .args .work .now) (at-loop .loop .i) (promise .answers (at-start .args .m)) (c .if1 .left) in (
-      work-back after-note-list,
-      rows-go-on s (at-start .args .work .now) (at-loop .loop .inv .1) (after-note-list .note-list .last .1 .1 .1 .1 .0)
-          (in-turn .loop-test .taken) passes (promise .notes (at-start .args .m) passes),
-    )
-
-passed-requires : tie.Need-passed-requires Inv-loop μ-loop
-passed-requires c κs = tt
-
-same-length-2 : tie.Need-same-length-2 Inv-loop μ-loop
-same-length-2 c =
-    let at-loop = c .before .before in
-    at-loop .loop .inv .0
-
-returns-2 : tie.Need-returns-2 Inv-loop μ-loop
+returns-2 : tie.Need-returns-2
 returns-2 c =
-    let at-start = c .before .before .before .before .before .before in
-    let at-loop = c .before .before in
-    let s = poses (at-start .args .m) (at-start .args .n) (at-start .args .items .now) (at-start .args .scores .now) in
-    let whole : at-loop .loop .i ≡ at-start .args .m = omega (arith, at-loop .loop .inv .1 .within) in
-    rows-done s (at-start .args .work .now) (rw whole at (at-loop .loop .inv .1)) (c .passed .ensures)
+    let at-start = (c .before .before .before .before .before .before .before .before .before .before .before .before) in
+    let after-note-whole = (c .before .before .before .before .before .before .before) in
+    let after-walk-lists = (c .before .before) in
+    let a = at-start .args in
+    noted-after (poses (a .m) (a .n) (a .items .now) (a .scores .now)) (a .work .now) (after-note-whole .note-whole .last .1 .1 .1 .1 .0)
+    (places-back after-note-whole) (at-start .pre .work-long) (after-walk-lists .walk-lists .ensures)
 
 pub note-lists-spec : {M : Type 1} → statement M
 note-lists-spec =
     tie.close
     (tie.spec
-    Inv-loop
-    μ-loop
-    loop-holds
-    mul-from
-    add-to
-    mul-note-list
-    sub-note-list
-    part-note-list-start
-    part-note-list-end
-    note-list-requires
+    mul-size
+    sub-note-whole
+    part-note-whole-start
+    part-note-whole-end
+    note-whole-requires
+    passed-requires
     same-length
     returns
-    add-i
-    loop-less
-    loop-again
-    passed-requires
+    walk-lists-requires
     same-length-2
     returns-2)
