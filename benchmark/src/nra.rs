@@ -4,20 +4,23 @@
 use crate::query::{Lent, Tested};
 use crate::Done;
 
+/// The k greatest marks are kept in the highs, which are not written until the shortlist is.
 pub fn nra(query: &Tested, lent: &mut Lent) -> Done {
     let work = &lent.work[..query.m * query.n];
-    let (mut marks, mut tops, mut met) = ([0; 1024], [0; 1024], [0; 1024]);
+    let (mut marks, mut met) = ([0; 1024], [0; 1024]);
+    let tops = &mut lent.highs[..query.k];
+    tops.fill(0);
     let mut kept = Kept {
         marks: &mut marks[..query.n],
-        tops: &mut tops[..query.k],
+        tops,
         met: &mut met[..query.n],
         count: 0,
     };
     let rows = stopping_row(query, work, &mut kept);
-    let top = kept.tops[query.k - 1];
+    let (top, count) = (kept.tops[query.k - 1], kept.count);
     let mut shortlist = Shortlist::over(query.k, lent.picks, lent.lows, lent.highs);
-    for &item in &kept.met[..kept.count] {
-        let mark = kept.marks[usize::from(item)];
+    for &item in &met[..count] {
+        let mark = marks[usize::from(item)];
         if top <= mark {
             shortlist.keep(item, mark - 1, query.high(usize::from(item), rows, work));
         }

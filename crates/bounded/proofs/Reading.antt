@@ -1,6 +1,6 @@
 -- What the code reads off the slices is what the definitions say of NRA's rows.
 --     legible, sought            what reading after p rows asks; what the search for the row asks
---     top-least                  the k-th mark is not 0 when NRA stops
+--     top-least, held-full       the k-th mark is not 0 when NRA stops, so k items are held
 --     low-is, high-is, met-is    an item's low and high, and whether it is met
 --     held-same, halts-same      the first k and the test, of equal lows, highs and met items
 --     kept-is, stops-is          NRA's first k and its test, as the code has them
@@ -13,7 +13,7 @@ use Prim.Native.Nat.{ℕ, _+_, _-_, _*_, _≤_, _<_}
 use native.Mathlib.Numerals.{add-one}
 use native.Mathlib.Omega.{arith}
 use lib.Dec.{eqb, leb, ltb}
-use lib.ListN.{length, getD, take}
+use lib.ListN.{length, getD, take, length-map}
 use borrow.Author.Tests.{eq-eqb, leb-true, leb-false, le-leb, ltb-true, ltb-false, lt-ltb}
 use Rattle.model.specs.Words.{lastOf, table, over}
 use Rattle.model.specs.Given.{Poses, Query, item, score, place, overall}
@@ -28,15 +28,16 @@ use Rattle.laws.specs.Kept.{kept-item}
 use Rattle.entries.specs.Contracts.{poses}
 use Rattle.meeting.specs.Contracts.{queryWith, Readable, Room, readAt, unread}
 use Rattle.bounded.specs.Depth.{tally-deep, read-deep, met-deep}
-use Rattle.halting.specs.Bar.{held, halts}
+use Rattle.halting.specs.Bar.{held, halts, bar-full}
 use Rattle.bounded.specs.Stops.{kept-held, stops-halts, rows-are}
 use Rattle.halting.specs.Contracts.{View, view, boundOf, metOf, haltsOf, Legible, markOf, reachOf}
-use Rattle.halting.specs.Marks.{halts-few}
+use Rattle.halting.specs.Marks.{reach-is, halts-few}
 use Rattle.leading.specs.Contracts.{Leading}
-use Rattle.raising.specs.Floor.{led-few}
+use Rattle.raising.specs.Floor.{under-floor, led-few}
 use Rattle.ending.specs.Contracts.{Sought, Halted}
 use Rattle.ranking.specs.Contracts.{heldOf, HeldIn}
 use Rattle.bounded.specs.Contracts.{Finished}
+use Rattle.bounded.proofs.Lent.{TopsIn, tops-gone}
 
 -- ---- equal lows, highs and met items
 module _ (n k : ℕ) (low high low′ high′ : ℕ → ℕ) (met met′ : ℕ → Bool)
@@ -145,6 +146,16 @@ module _ (m n rule : ℕ) (weights items scores work : List ℕ) (w : Readable (
       rw (leads .marked .marks-are d hd, met-it) (lt-ltb 0 (boundOf v false r d + 1) (omega arith))) in
       absurd (omega (arith, few, all))))
 
+  -- so k items are met, and k are held
+  pub held-full : {k r count : ℕ} {marks tops met : List ℕ} → 1 ≤ k → k ≤ n → Halted v k r → Leading v r k marks tops met count
+      → length (heldOf v k r) ≡ k
+  unfolding heldOf
+  held-full {k} {r} some most found leads =
+      let least = top-least some most found leads in
+      let read = legible r (found .row-least) (found .row-most) in
+      bar-full n k (boundOf v false r) (boundOf v true r) (metOf v r) some 0
+      (omega (arith, leads .led .counts 0, under-floor (leads .led) some 0 least, reach-is read (leads .marked) 0))
+
   -- a local score, and what stands for one that is not read
   read-is : (p d i x y : ℕ) → i < m → d < n → x ≡ y
       → cond (leb (getD work (i * n + d) 0) p) (getD scores (i * n + getD work (i * n + d) 0 - 1) 0) x ≡ readOr s p d i y
@@ -191,9 +202,10 @@ module _ (m n rule : ℕ) (weights items scores work : List ℕ) (w : Readable (
         (low-is p) (λ d. high-is p d least) (met-is p) (w .lists-valid .size .n-least)
         ∙ sym (stops-halts s q k p)
 
-  module _ {k r filled : ℕ} {picks₀ lows₀ highs₀ tally₀ picks lows highs tally′ : List ℕ}
-      (room : Room s k picks₀ lows₀ highs₀ tally₀) (found : Halted v k r)
-      (at : HeldIn v k r picks₀ lows₀ highs₀ filled picks lows highs) (written : tally′ ≡ over (table (λ i q. once (ltb q r)) n m) tally₀) where
+  module _ {k r filled count : ℕ} {marks tops met-items picks₀ lows₀ highs₀ tally₀ highs₁ picks lows highs tally′ : List ℕ}
+      (room : Room s k picks₀ lows₀ highs₀ tally₀) (found : Halted v k r) (leads : Leading v r k marks tops met-items count)
+      (scratch : TopsIn k highs₀ tops highs₁) (at : HeldIn v k r picks₀ lows₀ highs₁ filled picks lows highs)
+      (written : tally′ ≡ over (table (λ i q. once (ltb q r)) n m) tally₀) where
     holds : r < n → stops s k (NRA s q) r ≡ true
     holds h = sym (stops-is k r (found .row-least)) ∙ found .holds h
 
@@ -222,6 +234,8 @@ module _ (m n rule : ℕ) (weights items scores work : List ℕ) (w : Readable (
               picks-are = shown .picks-are ∙ ap (λ (x : List ℕ). over x picks₀) same-list;
               lows-are = shown .lows-are ∙ ap (λ (x : List ℕ). over x lows₀) (bounds-are (boundOf v false r) (lowNRA s q r) (low-is r));
               highs-are = shown .highs-are
+                  ∙ tops-gone scratch (map (boundOf v true r) (heldOf v k r))
+                  (length-map (heldOf v k r) (boundOf v true r) ∙ held-full (room .k-least) (room .k-most) found leads)
                   ∙ ap (λ (x : List ℕ). over x highs₀) (bounds-are (boundOf v true r) (highNRA s q r) (λ d. high-is r d (found .row-least)));
             };
             tally-is = written ∙ ap (λ (x : List ℕ). over x tally₀) (sym (tally-deep s r));

@@ -3,9 +3,22 @@
 use ending::stopping_row;
 use ranking::rank;
 use tallying::fill_tally;
+ghost use mathlib.Core.Path.{_≡_};
+ghost use lib.ListN.{length, replicate};
 ghost use Rattle.entries.specs.Contracts.{poses};
 ghost use Rattle.meeting.specs.Contracts.{queryWith, Readable, Room};
 ghost use Rattle.bounded.specs.Contracts.{Finished};
+
+// Before any row all marks are 0, and so are the k greatest.
+fn clear_tops(tops: &mut [u32])
+    ensures { λ _. ⌜ now (tops .exit) ≡ replicate (length (now (tops .entry))) 0 ⌝ }
+{
+    let mut j = 0;
+    while j < tops.len() {
+        tops[j] = 0;
+        j += 1;
+    }
+}
 
 // The run of NRA over accepted lists, whose positions the work slice holds: the shortlist and the tally
 // are written, and the answer is the row after which it stops.
@@ -30,8 +43,9 @@ pub fn run_nra(
         (now (picks .exit)) (now (lows .exit)) (now (highs .exit)) (now (tally .exit)) ⌝ }
 {
     let mut marks: [u32; 1024] = [0; 1024];
-    let mut tops: [u32; 1024] = [0; 1024];
     let mut met: [u16; 1024] = [0; 1024];
+    // The k greatest marks need k numbers, and the highs are not written until `rank`.
+    clear_tops(&mut highs[0..k]);
     let stop = stopping_row(
         k,
         m,
@@ -42,11 +56,11 @@ pub fn run_nra(
         scores,
         work,
         &mut marks,
-        &mut tops,
+        &mut highs[0..k],
         &mut met,
     );
     let row = stop.row;
-    let top = tops[k - 1];
+    let top = highs[k - 1];
     rank(
         row,
         k,

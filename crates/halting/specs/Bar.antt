@@ -2,6 +2,7 @@
 --     held, halts                the first k met items, by given lows and highs; NRA's test of them
 --     Parted                     a bar: k lows reach it, at most k highs are above it, and those items' lows reach it
 --     halts-parted, parted-halts     the test holds exactly where there is such a bar
+--     bar-full                   where k met items' lows reach some bar, k items are held
 --     parts, parts-halts         the test by the k-th low alone, with no order made
 -- Assumes nothing.
 use mathlib.Core.Path.{_≡_, refl, sym, ap, _∙_}
@@ -105,7 +106,7 @@ module _ (n k : ℕ) (low high : ℕ → ℕ) (met : ℕ → Bool) (some : 1 ≤
 
   -- k lows reach a bar: k items are kept, and the last low of them reaches it
   module _ (bar : ℕ) (reached : k ≤ passing (λ d. met d && leb bar (low d)) n) where
-    bar-full : length (held n k low high met) ≡ k
+    pub bar-full : length (held n k low high met) ≡ k
     unfolding held
     bar-full =
         let met-many = passing-wider (λ d. met d && leb bar (low d)) met n (λ d _ y. and-yes (met d) (leb bar (low d)) y .0) in

@@ -12,7 +12,7 @@
 --     map-at, map-take, map-drop, map-join       an entry of a mapped list; a part of one; of two joined
 --     over-length, over-at               a slice written over keeps its length; what stands in its first part
 --     over-map-at, over-beyond           the same of a mapped list; what stands past the first part
---     over-more                          after l, as many entries as ys has
+--     over-more, over-part               after l, as many entries as ys has; the first part, as many entries as l has
 --     fill-more                          one entry more in a slice that is filled from its start
 --     over-over, over-taken              a list written over one that is as long; the first part read back
 --     zeros-at                           an entry of zeros, or past their end
@@ -269,6 +269,10 @@ over-more l ys s a e la le =
     let front : take a (l ++ drop (length l) s) ≡ l = rw (← la) (take-append-seam l (drop (length l) s)) in
     let rest : drop a (l ++ drop (length l) s) ≡ drop (length l) s = rw (← la) (drop-append-seam l (drop (length l) s)) in
     rw (front, rest, size, drop-drop, length-append) (sym (append-assoc l ys (drop (length l + length ys) s)))
+
+pub over-part : (l s : List ℕ) (k : ℕ) → length l ≡ k → putMid 0 (k - 0) s l ≡ over l s
+unfolding over
+over-part l s k size = over-more [] l s 0 k refl (omega (arith, size))
 
 pub fill-more : (f : ℕ → ℕ) (q : ℕ) (lent : List ℕ) → q < length lent
     → set (over (row f q) lent) q (f q) ≡ over (row f (suc q)) lent

@@ -4,7 +4,7 @@
 -- Assumes nothing.
 use mathlib.Core.Path.{_≡_, refl, sym, ap, _∙_}
 use mathlib.Core.Bool.{true}
-use mathlib.Core.List.{List, [], _++_}
+use mathlib.Core.List.{List, _++_}
 use Prim.Native.Nat.{ℕ, _+_, _-_, _*_, _≤_}
 use native.Mathlib.Omega.{arith}
 use lib.ListN.{length, drop}
@@ -13,7 +13,7 @@ use Rattle.model.specs.Words.{over}
 use Rattle.model.specs.Given.{Poses, place}
 use Rattle.model.specs.Refusals.{accepted}
 use Rattle.model.specs.Answers.{told, places}
-use Rattle.laws.specs.Lists.{table-length, over-more}
+use Rattle.laws.specs.Lists.{table-length, over-part}
 use Rattle.entries.specs.declared.Checked.{Checked}
 use Rattle.entries.specs.Contracts.{valueOf}
 use Rattle.passing.specs.Contracts.{WholeNoted}
@@ -32,10 +32,8 @@ module _ (s : Poses) (lent own : List ℕ) (long : length own ≡ s .m * s .n) (
   places-length = table-length (λ i d. place s i d + 1) (s .n) (s .m)
 
   pub noted-whole : {r : Checked} → valueOf r ≡ told accepted → WholeNoted s true own → ListsNoted s lent r swept
-  unfolding over
   noted-whole says all =
-      let whole : swept ≡ over own lent = over-more [] own lent 0 (s .m * s .n) (omega arith) (omega arith) in
-      record { answers = says ∙ ap told (sym (all .passes refl)); notes = λ _. whole ∙ rw (all .notes refl); beyond = swept-beyond }
+      record { answers = says ∙ ap told (sym (all .passes refl)); notes = λ _. over-part own lent (s .m * s .n) long ∙ rw (all .notes refl); beyond = swept-beyond }
 
   pub noted-after : {r : Checked} {after : List ℕ} → ListsNoted s swept r after → ListsNoted s lent r after
   unfolding over

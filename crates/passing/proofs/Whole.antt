@@ -24,7 +24,7 @@ use Rattle.laws.specs.Verdicts.{first-refusal-all, first-refusal-none}
 use Rattle.laws.specs.Marks.{noted, all-noted}
 use Rattle.laws.specs.Accepted.{passed, noted-place, falls-by-one}
 use Rattle.sweeps.specs.Contracts.{Greatest}
-use Rattle.passing.specs.Contracts.{Rising, Swept, WholeNoted}
+use Rattle.passing.specs.Contracts.{Rising, Swept}
 
 -- no score is above the one before it
 never-rises : (s : Poses) (i : ℕ) → ((p : ℕ) → suc p < s .n → score s i (suc p) ≤ score s i p) → (p : ℕ) → p < s .n → rises s i p ≡ false

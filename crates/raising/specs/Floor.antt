@@ -80,12 +80,12 @@ reach-zeros n size bar =
     passing-none (λ d. ltb bar (getD (replicate size 0) d 0)) n
     (λ d _. rw (zeros-at size d) (le-ltb bar 0 (omega arith)))
 
-pub led-start : (n k : ℕ) → n ≤ 1024 → k ≤ n → Led n k (replicate 1024 0) (replicate 1024 0)
-led-start n k n-most k-most =
+pub led-start : (n k : ℕ) → Led n k (replicate 1024 0) (replicate k 0)
+led-start n k =
     record {
-      tops-long = omega (arith, length-replicate {A = ℕ} 1024 0);
-      falling = λ j _. rw (zeros-at 1024 (suc j), zeros-at 1024 j) (omega arith);
-      counts = λ bar. rw (reach-zeros k 1024 bar, reach-zeros n 1024 bar) (omega arith);
+      tops-long = omega (arith, length-replicate {A = ℕ} k 0);
+      falling = λ j _. rw (zeros-at k (suc j), zeros-at k j) (omega arith);
+      counts = λ bar. rw (reach-zeros k k bar, reach-zeros n 1024 bar) (omega arith);
     }
 
 -- no item is met before the first row
