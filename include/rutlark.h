@@ -11,7 +11,7 @@
  * looked at nor changed.
  *
  * No function allocates, has a global, or keeps a pointer: all are reentrant and may run in any number of threads at once.
- * A call needs less than 12 KiB of stack. It always ends.
+ * A call needs less than 8 KiB of stack. It always ends.
  *
  * m is the number of lists (1 to 8), n the number of items (1 to 1,024), k the number of places asked for (1 to n). In both list
  * slices list i, position p stands at (i - 1) * n + p - 1. Items count from 0, lists and positions from 1.
