@@ -33,7 +33,11 @@ module _ (s : Poses) (lent own : List ℕ) (long : length own ≡ s .m * s .n) (
 
   pub noted-whole : {r : Checked} → valueOf r ≡ told accepted → WholeNoted s true own → ListsNoted s lent r swept
   noted-whole says all =
-      record { answers = says ∙ ap told (sym (all .passes refl)); notes = λ _. over-part own lent (s .m * s .n) long ∙ rw (all .notes refl); beyond = swept-beyond }
+      record {
+        answers = says ∙ ap told (sym (all .passes refl));
+        notes = λ _. over-part own lent (s .m * s .n) long ∙ rw (all .notes refl);
+        beyond = swept-beyond;
+      }
 
   pub noted-after : {r : Checked} {after : List ℕ} → ListsNoted s swept r after → ListsNoted s lent r after
   unfolding over

@@ -1,5 +1,6 @@
 -- List by list: what is known once the sweeps have passed i lists, and one list more.
 --     own                        a list's own part of a slice, which the sweeps are lent
+--     ownRises                   whether its numbers rise
 --     own-length, own-at         its length; its entries
 --     Passed                     after i lists: no score of theirs rises, and their items are noted
 --     rows-start, rows-go-on, rows-end       with no list; past one more; at the last
@@ -7,7 +8,7 @@
 --     row-rises                  a score of list i that is above the one before it
 -- Assumes nothing.
 use mathlib.Core.Path.{_≡_, refl, sym, ap, _∙_}
-use mathlib.Core.Bool.{true, false}
+use mathlib.Core.Bool.{Bool, true, false}
 use mathlib.Core.List.{List, _++_, append-nil}
 use Prim.Native.Nat.{ℕ, zero, suc, _+_, _-_, _*_, _≤_, _<_}
 use native.Mathlib.Nat.{le-of-eq, not-suc-le-zero}
@@ -35,6 +36,10 @@ noted-alike f g (suc p) d same = rw (same p (omega arith), noted-alike f g p d (
 abbrev pub own : ℕ → ℕ → List ℕ → List ℕ
 own i n l = take (i * n + n - i * n) (drop (i * n) l)
 
+-- whether a list's own numbers rise, as the sweep over them tells it
+abbrev pub ownRises : ℕ → ℕ → List ℕ → Bool
+ownRises i n l = someBelow (λ q. ltb (getD (own i n l) q 0) (getD (own i n l) (q + 1) 0)) (length (own i n l) - 1)
+
 module _ (i n : ℕ) (l : List ℕ) (reach : i * n + n ≤ length l) where
   pub own-length : length (own i n l) ≡ n
   own-length = simp (length-take, length-drop) (omega arith)
@@ -42,8 +47,7 @@ module _ (i n : ℕ) (l : List ℕ) (reach : i * n + n ≤ length l) where
   pub own-at : (q : ℕ) → q < n → getD (own i n l) q 0 ≡ getD l (i * n + q) 0
   own-at q h = let inside : q < i * n + n - i * n = omega arith in rw (getD-take, getD-drop)
 
-  own-falls : someBelow (λ q. ltb (getD (own i n l) q 0) (getD (own i n l) (q + 1) 0)) (length (own i n l) - 1) ≡ false
-      → (q : ℕ) → suc q < n → getD l (i * n + suc q) 0 ≤ getD l (i * n + q) 0
+  own-falls : ownRises i n l ≡ false → (q : ℕ) → suc q < n → getD l (i * n + suc q) 0 ≤ getD l (i * n + q) 0
   own-falls none q h =
       let long = own-length in
       let inside : q < length (own i n l) - 1 = omega arith in
@@ -53,8 +57,7 @@ module _ (i n : ℕ) (l : List ℕ) (reach : i * n + n ≤ length l) where
       let next : getD l (i * n + suc q) 0 ≡ getD (own i n l) (q + 1) 0 = rw (add-one q) (sym (own-at (suc q) h)) in
       rw (now, next) falls
 
-  own-rises : someBelow (λ q. ltb (getD (own i n l) q 0) (getD (own i n l) (q + 1) 0)) (length (own i n l) - 1) ≡ true
-      → (q : ℕ) × (suc q < n) × (getD l (i * n + q) 0 < getD l (i * n + suc q) 0)
+  own-rises : ownRises i n l ≡ true → (q : ℕ) × (suc q < n) × (getD l (i * n + q) 0 < getD l (i * n + suc q) 0)
   own-rises some =
       let found = some-found (λ p. ltb (getD (own i n l) p 0) (getD (own i n l) (p + 1) 0)) (length (own i n l) - 1) some in
       let q = found .0 in
@@ -110,15 +113,13 @@ module _ (s : Poses) where
         rw (w .rows-are, over-beyond (table notes (s .n) i) (replicate (s .m * s .n) 0) (i * s .n) (le-of-eq (table-length notes (s .n) i)))
         (own-zeros i (s .n) (s .m * s .n) (table-room i (s .m) (s .n) h))
 
-    pub row-rises : someBelow (λ q. ltb (getD (own i (s .n) (s .scores)) q 0) (getD (own i (s .n) (s .scores)) (q + 1) 0)) (length (own i (s .n) (s .scores)) - 1) ≡ true
-        → Rising s
+    pub row-rises : ownRises i (s .n) (s .scores) ≡ true → Rising s
     unfolding score
     row-rises some =
         let found = own-rises i (s .n) (s .scores) (row-within (length (s .scores)) (asked .lies .scores-long)) some in
         record { list = i; position = found .0; list-small = h; inside = found .1; above = found .2 }
 
-    pub rows-go-on : (after : List ℕ)
-        → someBelow (λ q. ltb (getD (own i (s .n) (s .scores)) q 0) (getD (own i (s .n) (s .scores)) (q + 1) 0)) (length (own i (s .n) (s .scores)) - 1) ≡ false
+    pub rows-go-on : (after : List ℕ) → ownRises i (s .n) (s .scores) ≡ false
         → after ≡ row (noted (λ q. getD (own i (s .n) (s .items)) q 0) (s .n)) (s .n)
         → Passed (putMid (i * s .n) (i * s .n + s .n - i * s .n) places after) (i + 1)
     unfolding table item score

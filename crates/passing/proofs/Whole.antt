@@ -27,7 +27,8 @@ use Rattle.sweeps.specs.Contracts.{Greatest}
 use Rattle.passing.specs.Contracts.{Rising, Swept}
 
 -- no score is above the one before it
-never-rises : (s : Poses) (i : ℕ) → ((p : ℕ) → suc p < s .n → score s i (suc p) ≤ score s i p) → (p : ℕ) → p < s .n → rises s i p ≡ false
+never-rises : (s : Poses) (i : ℕ) → ((p : ℕ) → suc p < s .n → score s i (suc p) ≤ score s i p) → (p : ℕ) → p < s .n
+    → rises s i p ≡ false
 unfolding rises
 never-rises s i falls zero l = refl
 never-rises s i falls (suc p) l =
@@ -75,7 +76,8 @@ module _ (s : Poses) where
       let long : length after ≡ s .m * s .n = rw (swept .notes) (table-length notes (s .n) (s .m)) in
       let every : (i d : ℕ) → i < s .m → d < s .n → eqb (notes i d) 0 ≡ false = λ i d hi hd.
       let here : i * s .n + d < length after = rw long (omega (arith, table-room i (s .m) (s .n) hi)) in
-      rw (← (table-at notes (s .n) (s .m) i d 0 hi hd), ← (swept .notes)) (some-not (λ q. eqb (getD after q 0) 0) (length after) (i * s .n + d) none-empty here) in
+      rw (← (table-at notes (s .n) (s .m) i d 0 hi hd), ← (swept .notes))
+      (some-not (λ q. eqb (getD after q 0) 0) (length after) (i * s .n + d) none-empty here) in
       let each : (i : ℕ) → i < s .m → inList s i ≡ accepted = λ i hi.
       passes s i (λ p. small i p hi) (λ p. swept .falls i p hi) (λ d. every i d hi) in (
         first-refusal-all (inList s) (s .m) each,
@@ -88,7 +90,8 @@ module _ (s : Poses) where
     unfolding inLists
     each-passes i hi = first-refusal-none (inList s) (s .m) i all hi
 
-    pub not-great : {most : ℕ} → 1 ≤ s .n → s .m * s .n ≤ length (s .items) → Greatest (front (s .m * s .n) (s .items)) most → s .n ≤ most → ⊥
+    pub not-great : {most : ℕ} → 1 ≤ s .n → s .m * s .n ≤ length (s .items) → Greatest (front (s .m * s .n) (s .items)) most
+        → s .n ≤ most → ⊥
     unfolding item
     not-great {most} some long found great =
         let size = s .m * s .n in

@@ -90,7 +90,10 @@ returns c =
     }
 
 mul-note-items : tie.Need-mul-note-items Inv-loop μ-loop
-mul-note-items c = let at-start = (c .before .before .before .before .before .before .before .before) in omega (arith, here (c .before .before .before), at-start .good)
+mul-note-items c =
+    let at-start = (c .before .before .before .before .before .before .before .before) in
+    let in-turn = (c .before .before .before) in
+    omega (arith, here in-turn, at-start .good)
 
 sub-note-items : tie.Need-sub-note-items Inv-loop μ-loop
 sub-note-items c = omega arith
@@ -102,7 +105,10 @@ part-note-items-end : tie.Need-part-note-items-end Inv-loop μ-loop
 part-note-items-end c = here (c .before .before .before) .row-in-items
 
 mul-note-items-2 : tie.Need-mul-note-items-2 Inv-loop μ-loop
-mul-note-items-2 c = let at-start = (c .before .before .before .before .before .before .before .before .before) in omega (arith, here (c .before .before .before .before), at-start .good)
+mul-note-items-2 c =
+    let at-start = (c .before .before .before .before .before .before .before .before .before) in
+    let in-turn = (c .before .before .before .before) in
+    omega (arith, here in-turn, at-start .good)
 
 sub-note-items-2 : tie.Need-sub-note-items-2 Inv-loop μ-loop
 sub-note-items-2 c = omega arith

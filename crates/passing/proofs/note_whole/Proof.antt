@@ -113,7 +113,8 @@ returns-4 c =
     let else2 = (c .before .before .before) in
     let after-has-zero = (c .before) in
     let good =
-    all-pass (given at-start) (small (c .before .before .before .before .before .before .before .before .before .before .before .before)) (after-a-list-rises .a-list-rises .ensures .swept (else2 .if2 .left))
+    all-pass (given at-start) (small (c .before .before .before .before .before .before .before .before .before .before .before .before))
+    (after-a-list-rises .a-list-rises .ensures .swept (else2 .if2 .left))
     (sym (after-has-zero .has-zero .ensures) ∙ c .if3 .left) in
     record { passes = λ _. good .0; damaged = λ told. absurd (true≢false told); notes = λ _. good .1 }
 
