@@ -12,6 +12,7 @@ use Rattle.model.specs.Refusals.{accepted, inLists}
 use Rattle.model.specs.Answers.{told, places, checked, checkedWork}
 use Rattle.entries.specs.declared.Checked.{Checked}
 use Rattle.entries.specs.Contracts.{valueOf}
+use Rattle.passing.specs.Contracts.{Within}
 
 -- The list check, at every input: it answers what the model answers, and leaves its work slice as the model says
 pub record ListsChecked (s : Poses) (work : List ℕ) (r : Checked) (after : List ℕ) : Type 0 where
@@ -20,11 +21,7 @@ pub record ListsChecked (s : Poses) (work : List ℕ) (r : Checked) (after : Lis
 
 -- m lists of n entries lie within both slices and the work slice
 pub record Lying (s : Poses) (work : List ℕ) : Type 0 where
-  pub m-most : s .m ≤ 8
-  pub n-least : 1 ≤ s .n
-  pub n-most : s .n ≤ 1024
-  pub items-long : s .m * s .n ≤ length (s .items)
-  pub scores-long : s .m * s .n ≤ length (s .scores)
+  pub within : Within s
   pub work-long : s .m * s .n ≤ length work
 
 -- All lists are tested, and where they pass each item's position in each list is noted; places beyond stay as lent

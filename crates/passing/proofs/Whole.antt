@@ -4,16 +4,16 @@
 --     all-pass               what `note_whole` promises where it answers true
 --     not-great, not-rising, not-empty       where all lists pass, no sweep finds anything
 -- Assumes nothing.
-use mathlib.Core.Path.{_≡_, refl, sym, _∙_}
+use mathlib.Core.Path.{_≡_, refl, sym, ap, _∙_}
 use mathlib.Core.Bool.{true, false}
 use mathlib.Core.List.{List}
 use Prim.Native.Nat.{ℕ, zero, suc, _+_, _-_, _*_, _≤_, _<_}
 use native.Mathlib.Numerals.{sub-one}
 use native.Mathlib.Omega.{arith}
 use lib.Dec.{eqb, ltb}
-use lib.ListN.{length, getD, take, drop, length-take, length-drop}
-use lib.Seq.{getD-take, getD-drop}
+use lib.ListN.{length, getD}
 use borrow.Author.Tests.{eqb-true, ltb-true, ltb-false, lt-leb, lt-ltb, le-ltb}
+use borrow.Rule.Slice.PartMut.{midOf, mid-len}
 use Rattle.model.specs.Words.{someBelow, table}
 use Rattle.model.specs.Given.{Poses, item, score, place}
 use Rattle.model.specs.Refusals.{accepted, notItem, stoodEarlier, rises, standing, fault, inList, inLists}
@@ -25,6 +25,7 @@ use Rattle.laws.specs.Marks.{noted, all-noted}
 use Rattle.laws.specs.Accepted.{passed, noted-place, falls-by-one}
 use Rattle.sweeps.specs.Contracts.{Greatest}
 use Rattle.passing.specs.Contracts.{Rising, Swept}
+use Rattle.passing.proofs.Rows.{part-at}
 
 -- no score is above the one before it
 never-rises : (s : Poses) (i : ℕ) → ((p : ℕ) → suc p < s .n → score s i (suc p) ≤ score s i p) → (p : ℕ) → p < s .n
@@ -46,13 +47,13 @@ passes s i small falls every =
 
 -- the first entries of a slice
 abbrev pub front : ℕ → List ℕ → List ℕ
-front size l = take (size - 0) (drop 0 l)
+front size l = midOf 0 (size - 0) l
 
 front-length : (size : ℕ) (l : List ℕ) → size ≤ length l → length (front size l) ≡ size
-front-length size l reach = simp (length-take, length-drop) (omega arith)
+front-length size l reach = mid-len 0 size l reach ∙ omega arith
 
 front-at : (size q : ℕ) (l : List ℕ) → q < size → getD (front size l) q 0 ≡ getD l q 0
-front-at size q l h = let inside : q < size - 0 = omega arith in rw (getD-take, getD-drop)
+front-at size q l h = part-at 0 size q l (omega arith) ∙ ap (λ (j : ℕ). getD l j 0) (omega arith)
 
 module _ (s : Poses) where
   -- where the greatest is below n, each entry is an item

@@ -1,5 +1,5 @@
 -- The records that the contracts of `passing` cite.
---     Lies           what `note_whole` asks: the lists lie within the slices, and a table is lent for their positions
+--     Within         what `note_whole` asks of the lists: they lie within both slices
 --     WholeNoted     what it promises: whether all lists pass, and where they do each item's position in each
 --     Sweepable      what the sweeps list by list ask: every entry is an item, and nothing is noted yet
 --     Rising, Swept      a list in which a score is above the one before it; no such list, and the items noted
@@ -16,14 +16,13 @@ use Rattle.model.specs.Refusals.{accepted, inLists}
 use Rattle.model.specs.Answers.{places}
 use Rattle.laws.specs.Marks.{noted}
 
--- m lists of n entries lie within both slices, and a place is lent for each item in each list
-pub record Lies (s : Poses) (lent : List ℕ) : Type 0 where
+-- m lists of n entries lie within both slices
+pub record Within (s : Poses) : Type 0 where
   pub m-most : s .m ≤ 8
   pub n-least : 1 ≤ s .n
   pub n-most : s .n ≤ 1024
   pub items-long : s .m * s .n ≤ length (s .items)
   pub scores-long : s .m * s .n ≤ length (s .scores)
-  pub places-lent : length lent ≡ s .m * s .n
 
 -- Whether all lists pass; where they do, each item's position in each list is noted
 pub record WholeNoted (s : Poses) (r : Bool) (after : List ℕ) : Type 0 where
@@ -31,9 +30,9 @@ pub record WholeNoted (s : Poses) (r : Bool) (after : List ℕ) : Type 0 where
   pub damaged : r ≡ false → inLists s ≡ accepted → ⊥
   pub notes : r ≡ true → after ≡ places s
 
--- The same lists, of whose entries each is an item, and nothing is noted yet
+-- Such lists, of whose entries each is an item, and a place for each item in each list, at which nothing is noted yet
 pub record Sweepable (s : Poses) (lent : List ℕ) : Type 0 where
-  pub lies : Lies s lent
+  pub within : Within s
   pub small : (i p : ℕ) → i < s .m → p < s .n → item s i p < s .n
   pub empty : lent ≡ replicate (s .m * s .n) 0
 

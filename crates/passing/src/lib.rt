@@ -4,11 +4,14 @@ use sweeps::greatest;
 use sweeps::has_zero;
 use sweeps::note_items;
 use sweeps::rises;
+ghost use mathlib.Core.Path.{_≡_};
+ghost use Prim.Native.Nat.{_*_};
+ghost use lib.ListN.{length};
 ghost use Rattle.entries.specs.Contracts.{poses};
-ghost use Rattle.passing.specs.Contracts.{Lies, WholeNoted, Sweepable, RowsSwept};
+ghost use Rattle.passing.specs.Contracts.{Within, WholeNoted, Sweepable, RowsSwept};
 
-// Whether in one of the lists a score is above the one before it. Where in none, each list's items are noted in its own row.
-fn a_list_rises(m: usize, n: usize, items: &[u16], scores: &[u16], places: &mut [u16]) -> bool
+// Notes each list's items in its own row, until in a list a score is above the one before it. Answers whether there is such a list.
+fn note_until_rise(m: usize, n: usize, items: &[u16], scores: &[u16], places: &mut [u16]) -> bool
     requires { ⌜ Sweepable (poses m n (now items) (now scores)) (now places) ⌝ }
     ensures { λ r. ⌜ RowsSwept (poses m n (now (items .entry)) (now (scores .entry))) r (now (places .exit)) ⌝ }
 {
@@ -28,7 +31,7 @@ fn a_list_rises(m: usize, n: usize, items: &[u16], scores: &[u16], places: &mut 
 // Whether all lists pass, with their items noted: n items below n leave no place empty only if none stands twice. Where a list is
 // damaged, a walk tells where. The places are asked last, when the stores to them are done.
 pub fn note_whole(m: usize, n: usize, items: &[u16], scores: &[u16], places: &mut [u16]) -> bool
-    requires { ⌜ Lies (poses m n (now items) (now scores)) (now places) ⌝ }
+    requires { ⌜ Within (poses m n (now items) (now scores)) × (length (now places) ≡ m * n) ⌝ }
     ensures { λ r. ⌜ WholeNoted (poses m n (now (items .entry)) (now (scores .entry))) r (now (places .exit)) ⌝ }
 {
     let size = m * n;
@@ -37,7 +40,7 @@ pub fn note_whole(m: usize, n: usize, items: &[u16], scores: &[u16], places: &mu
         return false;
     }
     clear(places, size);
-    if a_list_rises(m, n, items, scores, places) {
+    if note_until_rise(m, n, items, scores, places) {
         return false;
     }
     if has_zero(places) {

@@ -93,11 +93,13 @@ note-lists-requires c κs =
     let else4 = c .before in
     let sizes = sized (at-start .args .m) (at-start .args .n) (size-passed else1) in
     record {
-      m-most = sizes .m-most;
-      n-least = sizes .n-least;
-      n-most = sizes .n-most;
-      items-long = else2 .if2 .left;
-      scores-long = else3 .if3 .left;
+      within = record {
+        m-most = sizes .m-most;
+        n-least = sizes .n-least;
+        n-most = sizes .n-most;
+        items-long = else2 .if2 .left;
+        scores-long = else3 .if3 .left;
+      };
       work-long = else4 .if4 .left;
     }
 

@@ -40,9 +40,9 @@ here c =
     let room = table-room (at-loop .loop .i) (at-start .args .m) (at-start .args .n) (c .loop-test .taken) in
     let lies = at-start .pre in
     record {
-      list-small = omega (arith, lies .m-most, c .loop-test .taken);
-      row-in-items = omega (arith, lies .items-long);
-      row-in-scores = omega (arith, lies .scores-long);
+      list-small = omega (arith, lies .within .m-most, c .loop-test .taken);
+      row-in-items = omega (arith, lies .within .items-long);
+      row-in-scores = omega (arith, lies .within .scores-long);
       row-in-work = omega (arith, lies .work-long, at-loop .loop .inv .0);
       whole-in-work = omega (arith, lies .work-long, at-loop .loop .inv .0);
     }
@@ -89,7 +89,7 @@ walk-list-requires c κs =
     let part = mid-len from (from + at-start .args .n) (at-loop .loop .work) (known .row-in-work) in
     record {
       list-small = known .list-small;
-      n-most = at-start .pre .n-most;
+      n-most = at-start .pre .within .n-most;
       items-reach = known .row-in-items;
       scores-reach = known .row-in-scores;
       places-lent = omega (arith, part);

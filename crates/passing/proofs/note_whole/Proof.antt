@@ -1,10 +1,9 @@
 -- `passing::note_whole` meets its contract: by what each sweep found (`all-pass`), or the one that found something.
 -- Assumes nothing.
-use mathlib.Core.Path.{_≡_, sym, ap, _∙_}
+use mathlib.Core.Path.{_≡_, sym, _∙_}
 use mathlib.Core.Bool.{false, true≢false, false≢true}
 use mathlib.Core.List.{List}
 use Prim.Native.Nat.{ℕ, _*_, _<_}
-use lib.ListN.{length, length-replicate}
 use borrow.Author.Needs.{needs}
 use Rattle.model.specs.Given.{Poses, item}
 use Rattle.model.specs.Refusals.{accepted, inLists}
@@ -24,7 +23,7 @@ abbrev start : (c : tie.Else1) → tie.Start
 start c = c .before .before .before .before .before .before
 
 small : (c : tie.Else1) (i p : ℕ) → i < given (start c) .m → p < given (start c) .n → item (given (start c)) i p < given (start c) .n
-small c = all-small (given (start c)) (start c .pre .items-long) (c .before .greatest .ensures) (c .if1 .left)
+small c = all-small (given (start c)) (start c .pre .0 .items-long) (c .before .greatest .ensures) (c .if1 .left)
 
 -- where a sweep found something
 damaged-here : (s : Poses) {after : List ℕ} → (inLists s ≡ accepted → ⊥) → WholeNoted s false after
@@ -53,26 +52,18 @@ returns c =
     let at-start = (c .before .before .before .before .before .before) in
     let after-greatest = (c .before) in
     damaged-here (given at-start)
-    (λ all. not-great (given at-start) all (at-start .pre .n-least) (at-start .pre .items-long) (after-greatest .greatest .ensures) (c .if1 .taken))
+    (λ all. not-great (given at-start) all (at-start .pre .0 .n-least) (at-start .pre .0 .items-long) (after-greatest .greatest .ensures) (c .if1 .taken))
 
 clear-requires : tie.Need-clear-requires
 clear-requires c κs = search needs
 
-a-list-rises-requires : tie.Need-a-list-rises-requires
-a-list-rises-requires c κs =
+note-until-rise-requires : tie.Need-note-until-rise-requires
+note-until-rise-requires c κs =
     let at-start = (c .before .before .before .before .before .before .before .before .before .before .before) in
     let after-clear = (c .before .before .before) in
-    let lies = at-start .pre in
-    let zeros = after-clear .clear .ensures ∙ cleared (at-start .args .m * at-start .args .n) (at-start .args .places .now) (lies .places-lent) in
+    let zeros = after-clear .clear .ensures ∙ cleared (at-start .args .m * at-start .args .n) (at-start .args .places .now) (at-start .pre .1) in
     record {
-      lies = record {
-        m-most = lies .m-most;
-        n-least = lies .n-least;
-        n-most = lies .n-most;
-        items-long = lies .items-long;
-        scores-long = lies .scores-long;
-        places-lent = ap length zeros ∙ length-replicate (at-start .args .m * at-start .args .n) 0;
-      };
+      within = at-start .pre .0;
       small = small (c .before .before .before .before .before);
       empty = zeros;
     }
@@ -83,8 +74,8 @@ same-length c = search needs
 returns-2 : tie.Need-returns-2
 returns-2 c =
     let at-start = (c .before .before .before .before .before .before .before .before .before .before .before .before .before .before .before) in
-    let after-a-list-rises = (c .before .before .before) in
-    damaged-here (given at-start) (λ all. not-rising (given at-start) all (after-a-list-rises .a-list-rises .ensures .rising (c .if2 .taken)))
+    let after-note-until-rise = (c .before .before .before) in
+    damaged-here (given at-start) (λ all. not-rising (given at-start) all (after-note-until-rise .note-until-rise .ensures .rising (c .if2 .taken)))
 
 has-zero-requires : tie.Need-has-zero-requires
 has-zero-requires c κs = search needs
@@ -95,12 +86,12 @@ same-length-2 c = search needs
 returns-3 : tie.Need-returns-3
 returns-3 c =
     let at-start = (c .before .before .before .before .before .before .before .before .before .before .before .before .before .before .before .before .before .before) in
-    let after-a-list-rises = (c .before .before .before .before .before .before) in
+    let after-note-until-rise = (c .before .before .before .before .before .before) in
     let else2 = (c .before .before .before) in
     let after-has-zero = (c .before) in
     damaged-here (given at-start)
     (λ all.
-    not-empty (given at-start) all (after-a-list-rises .a-list-rises .ensures .swept (else2 .if2 .left))
+    not-empty (given at-start) all (after-note-until-rise .note-until-rise .ensures .swept (else2 .if2 .left))
     (sym (after-has-zero .has-zero .ensures) ∙ c .if3 .taken))
 
 same-length-3 : tie.Need-same-length-3
@@ -109,12 +100,12 @@ same-length-3 c = search needs
 returns-4 : tie.Need-returns-4
 returns-4 c =
     let at-start = (c .before .before .before .before .before .before .before .before .before .before .before .before .before .before .before .before .before .before) in
-    let after-a-list-rises = (c .before .before .before .before .before .before) in
+    let after-note-until-rise = (c .before .before .before .before .before .before) in
     let else2 = (c .before .before .before) in
     let after-has-zero = (c .before) in
     let good =
     all-pass (given at-start) (small (c .before .before .before .before .before .before .before .before .before .before .before .before))
-    (after-a-list-rises .a-list-rises .ensures .swept (else2 .if2 .left))
+    (after-note-until-rise .note-until-rise .ensures .swept (else2 .if2 .left))
     (sym (after-has-zero .has-zero .ensures) ∙ c .if3 .left) in
     record { passes = λ _. good .0; damaged = λ told. absurd (true≢false told); notes = λ _. good .1 }
 
@@ -130,7 +121,7 @@ note-whole-spec =
     cast-if1
     returns
     clear-requires
-    a-list-rises-requires
+    note-until-rise-requires
     same-length
     returns-2
     has-zero-requires

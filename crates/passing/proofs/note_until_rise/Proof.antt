@@ -1,4 +1,4 @@
--- `passing::a_list_rises` meets its contract. The loop's invariant: no score of i lists rises, their items are noted (`Passed`), and
+-- `passing::note_until_rise` meets its contract. The loop's invariant: no score of i lists rises, their items are noted (`SweptTo`), and
 -- the places have their length; the measure is how many lists are left.
 -- Assumes nothing.
 use mathlib.Core.Path.{_≡_, refl, sym, ap, _∙_}
@@ -9,12 +9,12 @@ use lib.ListN.{length, length-replicate}
 use borrow.Rule.Slice.PartMut.{same-len-mid}
 use Rattle.laws.specs.Lists.{table-room}
 use Rattle.entries.specs.Contracts.{poses}
-use Rattle.passing.proofs.Rows.{own-length, Passed, rows-start, rows-go-on, rows-end, row-small, row-clear, row-rises}
-use Rattle.passing.proofs.a_list_rises.Statement.{statement}
-use Rattle.passing.proofs.a_list_rises.Tie as tie
+use Rattle.passing.proofs.Rows.{own-length, SweptTo, rows-start, rows-go-on, rows-end, row-small, row-clear, row-rises}
+use Rattle.passing.proofs.note_until_rise.Statement.{statement}
+use Rattle.passing.proofs.note_until_rise.Tie as tie
 
 abbrev Inv-loop : tie.InvT-loop
-Inv-loop m n items scores places₀ i₀ places i = (length places ≡ length places₀) × Passed (poses m n items scores) places i
+Inv-loop m n items scores places₀ i₀ places i = (length places ≡ length places₀) × SweptTo (poses m n items scores) places i
 
 abbrev μ-loop : tie.MeasureT-loop
 μ-loop m n items scores places₀ i₀ places i = m - i
@@ -37,12 +37,13 @@ here c =
     let at-loop = c .before in
     let at-start = c .before .before .before .before .before in
     let room = table-room (at-loop .loop .i) (at-start .args .m) (at-start .args .n) (c .loop-test .taken) in
-    let lies = at-start .pre .lies in
+    let within = at-start .pre .within in
+    let lent = ap length (at-start .pre .empty) ∙ length-replicate (at-start .args .m * at-start .args .n) 0 in
     record {
-      list-small = omega (arith, lies .m-most, c .loop-test .taken);
-      row-in-items = omega (arith, lies .items-long);
-      row-in-scores = omega (arith, lies .scores-long);
-      row-in-places = omega (arith, lies .places-lent, at-loop .loop .inv .0);
+      list-small = omega (arith, within .m-most, c .loop-test .taken);
+      row-in-items = omega (arith, within .items-long);
+      row-in-scores = omega (arith, within .scores-long);
+      row-in-places = omega (arith, lent, at-loop .loop .inv .0);
     }
 
 loop-holds : tie.Need-loop-holds Inv-loop μ-loop
@@ -130,7 +131,7 @@ note-items-requires c κs =
     let long = ap length zeros ∙ length-replicate (a .n) 0 in
     let short = own-length (at-loop .loop .i) (a .n) (a .items .now) (here in-turn .row-in-items) in
     record {
-      few = omega (arith, short, at-start .pre .lies .n-most);
+      few = omega (arith, short, at-start .pre .within .n-most);
       placed = λ q l. rw long (row-small s (at-start .pre) (at-loop .loop .inv .1) (in-turn .loop-test .taken) q (rw short at l));
       empty = rw long zeros;
     }
@@ -176,8 +177,8 @@ returns-2 c =
       swept = λ _. rows-end (poses (a .m) (a .n) (a .items .now) (a .scores .now)) (rw whole at (at-loop .loop .inv .1));
     }
 
-pub a-list-rises-spec : {M : Type 1} → statement M
-a-list-rises-spec =
+pub note-until-rise-spec : {M : Type 1} → statement M
+note-until-rise-spec =
     tie.close
     (tie.spec
     Inv-loop
