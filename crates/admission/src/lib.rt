@@ -1,4 +1,6 @@
 // The tests of a search before it runs: its own 1 to 6, in that order, then the list check.
+#![tactic(auto)]
+
 ghost use Rattle.std.specs.Prelude.{◌≡◌};
 ghost use Rattle.model.specs.Answers.{told};
 ghost use Rattle.admission.specs.Clauses.{shape_of, Admitted};

@@ -1,4 +1,6 @@
 // The search of a number: all tests, the run, the answer.
+#![tactic(auto)]
+
 ghost use Rattle.running.specs.Clauses.{search_at};
 ghost use Rattle.admission.specs.Clauses.{lent_with};
 ghost use Rattle.answering.specs.Answered.{Searched};

@@ -1,4 +1,6 @@
 // The answer of a search: from a refusal, or from what its run has done.
+#![tactic(auto)]
+
 ghost use Rattle.std.specs.Prelude.{◌≡◌};
 ghost use Rattle.answers.specs.Clauses.{all_told, RefusedBy, Tells};
 
@@ -7,7 +9,7 @@ use meeting::{Direct, Done, Random, Sorted};
 
 // What a search gives back beside the slices: 0 or the number of a refusal with its list and position, the rows
 // or rounds, and the accesses by kind.
-#[derive(Drop)]
+#[derive(Clone, Copy)]
 pub struct Answer {
     pub number: u32,
     pub list: u32,

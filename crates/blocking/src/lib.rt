@@ -1,5 +1,7 @@
 // What stands in the way of stopping after a row. One item settles it, and mostly the item that stood there after
 // the row before still does: so long as items that are not met are in the way, no other item is looked at.
+#![tactic(auto)]
+
 ghost use Rattle.std.specs.Prelude.{◌≡◌, ◌&&◌, ◌≤◌, ◌<◌, ltb, replicate};
 ghost use Rattle.meeting.specs.Clauses.{Limited, limit_at};
 ghost use Rattle.halting.specs.Clauses.{view, Legible, Marked, Gathered};

@@ -1,5 +1,7 @@
 // NRA: the search by bounds. Once the row after which it stops is known, its shortlist and its tally are
 // written once.
+#![tactic(auto)]
+
 ghost use Rattle.std.specs.Prelude.{◌≡◌, length, replicate};
 ghost use Rattle.entries.specs.Clauses.{poses};
 ghost use Rattle.meeting.specs.Clauses.{query_with, Readable, Room};

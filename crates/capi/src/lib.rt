@@ -1,6 +1,8 @@
 // The library under C names. A slice is a pointer and then its number of elements, an array a
 // pointer. Each function is thin over a proved one and tells the same numbers: what that one answers
 // stands in the array that C lends.
+#![tactic(auto)]
+
 ghost use Rattle.model.specs.Searches.{TA, BPA, BPA2, NRA};
 ghost use Rattle.entries.specs.Clauses.{poses};
 ghost use Rattle.admission.specs.Clauses.{lent_with};

@@ -1,4 +1,6 @@
 // A search for lent rows, up to where they are written: its shortlist stays in columns.
+#![tactic(auto)]
+
 ghost use Rattle.std.specs.Prelude.{◌≡◌, length, take};
 ghost use Rattle.running.specs.Clauses.{search_at};
 ghost use Rattle.admission.specs.Clauses.{lent_with};
@@ -11,7 +13,7 @@ use placing::{enough, lesser};
 
 // What a search has found: its answer, and its shortlist by columns, of which the first `count`
 // places are to be written. 1,024 places hold the longest.
-#[derive(Drop)]
+#[derive(Clone, Copy)]
 pub struct Kept {
     pub answer: Answer,
     pub count: usize,

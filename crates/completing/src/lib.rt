@@ -1,5 +1,7 @@
 // What completes a run once its last row is read: the highs, where whole scores are known, and NRA's
 // accesses by kind.
+#![tactic(auto)]
+
 ghost use Rattle.std.specs.Prelude.{◌≡◌, ◌≤◌, length, take};
 ghost use Rattle.model.specs.Words.{over};
 ghost use Rattle.completing.specs.Clauses.{OnlySorted};

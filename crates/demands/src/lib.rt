@@ -1,1 +1,2 @@
 // No code: what the searches owe stands in specs/.
+#![tactic(auto)]

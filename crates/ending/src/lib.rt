@@ -1,4 +1,6 @@
 // The row after which NRA stops: rows are read one after the other, and after each its test is asked.
+#![tactic(auto)]
+
 ghost use Rattle.halting.specs.Clauses.{view};
 ghost use Rattle.leading.specs.Clauses.{Leading};
 ghost use Rattle.ending.specs.Clauses.{Sought, Stopped};
@@ -7,7 +9,7 @@ use blocking::obstacle;
 use leading::read_row;
 
 // Where NRA stops: after which row, and how many items are met by then.
-#[derive(Drop)]
+#[derive(Clone, Copy)]
 pub struct Stop {
     pub row: usize,
     pub count: usize,

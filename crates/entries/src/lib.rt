@@ -1,12 +1,14 @@
 // One list of the list check, walked: its entries are looked at in reading order until one is refused, and each item's position is
 // noted.
+#![tactic(auto)]
+
 ghost use Rattle.std.specs.Prelude.{◌≡◌, ◌++◌, ◌+◌, ◌≤◌, ◌<◌, length, drop, replicate};
 ghost use Rattle.model.specs.Refusals.{accepted, refused};
 ghost use Rattle.model.specs.Answers.{told};
 ghost use Rattle.entries.specs.Clauses.{value_of, Listed, ListNoted};
 
 // What the list check answers: a refusal's number with list and position, both from 1, or all 0.
-#[derive(Drop)]
+#[derive(Clone, Copy)]
 pub struct Checked {
     pub number: u32,
     pub list: u32,

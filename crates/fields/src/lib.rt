@@ -2,6 +2,8 @@
 // text from `at` on and answers where it ends; what stands before `at` and from that end on stays as
 // lent. They serve the program, which knows how long its text can be: each asks for room for the
 // longest.
+#![tactic(auto)]
+
 ghost use Rattle.std.specs.Prelude.{[], ◌∷◌, ◌+◌, ◌≤◌, ◌<◌, length};
 ghost use Rattle.model.specs.Program.{decimal, spaced as Program·spaced, coloned as Program·coloned};
 ghost use Rattle.fields.specs.Clauses.{Appended};

@@ -1,4 +1,6 @@
 // One half of a list record's entries, read into a lent slice: the items, or the scores.
+#![tactic(auto)]
+
 ghost use Rattle.filling.specs.Clauses.{Filling, Filled};
 
 use heads::pair_at;

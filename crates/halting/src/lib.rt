@@ -1,5 +1,7 @@
 // What NRA's test after p rows asks of each item, with no order made: the test holds exactly where the k-th low
 // parts the first k items from all others.
+#![tactic(auto)]
+
 ghost use Rattle.std.specs.Prelude.{◌≡◌, not, ◌≤◌, ◌<◌, leb, ltb, length};
 ghost use Rattle.laws.specs.Lookups.{once};
 ghost use Rattle.halting.specs.Clauses.{view, mark_of, listed_reach, passes_of, above_of, Legible, Marked, Named, Blocking};

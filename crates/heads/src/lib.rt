@@ -1,5 +1,7 @@
 // The numbers of a query record and of a list record, and the tests of each.
 // Numbers are big-endian, and a record's length counts the bytes after itself.
+#![tactic(auto)]
+
 ghost use Rattle.std.specs.Prelude.{◌≡◌, ◌+◌, ◌≤◌, ◌<◌, length};
 ghost use Rattle.model.specs.Refusals.{pair};
 ghost use Rattle.model.specs.Records.{quad, query_count, query_head, lists_m, lists_n, lists_head};

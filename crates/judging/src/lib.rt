@@ -1,5 +1,7 @@
 // What TA, BPA and BPA2 are judged by after a row or round: the positions of the threshold, the test against it, and the accesses
 // made, by kind.
+#![tactic(auto)]
+
 ghost use Rattle.std.specs.Prelude.{◌≡◌, ◌&&◌, ◌||◌, ◌-◌, ◌≤◌, ◌<◌, leb, eqb, length, get_or};
 ghost use Rattle.meeting.specs.Clauses.{Limited, limit_at};
 ghost use Rattle.noting.specs.Clauses.{Advancing};

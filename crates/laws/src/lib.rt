@@ -1,1 +1,2 @@
 // No code: what follows from the definitions stands in specs/.
+#![tactic(auto)]

@@ -1,5 +1,7 @@
 // What is kept as rows are read: each item's mark, the k greatest of them and the items met. No item but those
 // of the row is looked at for it.
+#![tactic(auto)]
+
 ghost use Rattle.std.specs.Prelude.{◌+◌, ◌-◌, ◌≤◌, ◌<◌};
 ghost use Rattle.halting.specs.Clauses.{view, Gathered};
 ghost use Rattle.raising.specs.Clauses.{Led};

@@ -1,11 +1,13 @@
 // The lines of the four searches: each search run, and its answer as text.
+#![tactic(auto)]
+
 ghost use Rattle.std.specs.Prelude.{◌+◌, ◌*◌, ◌≤◌, length};
 ghost use Rattle.admission.specs.Clauses.{lent_with};
 ghost use Rattle.wording.specs.Clauses.{line_room};
 ghost use Rattle.lines.specs.Clauses.{LineMade, Lines};
 
 // What the searches are asked: the sizes of the lists, the rule, and how many places.
-#[derive(Drop)]
+#[derive(Clone, Copy)]
 pub struct Asked {
     pub m: usize,
     pub n: usize,
@@ -14,7 +16,7 @@ pub struct Asked {
 }
 
 // Where a line ends, and the number of the refusal that it tells, or 0.
-#[derive(Drop)]
+#[derive(Clone, Copy)]
 struct Line {
     end: usize,
     number: u32,

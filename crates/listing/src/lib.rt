@@ -1,4 +1,6 @@
 // The places of a shortlist as text, written into a lent slice of bytes in the way of `fields`.
+#![tactic(auto)]
+
 ghost use Rattle.std.specs.Prelude.{◌+◌, ◌*◌, ◌≤◌, length};
 ghost use Rattle.model.specs.Program.{places_text};
 ghost use Rattle.fields.specs.Clauses.{Appended};

@@ -1,5 +1,7 @@
 // The list check and the place table: each item's position in each list is noted in the work slice, or the first refusal in reading
 // order is found.
+#![tactic(auto)]
+
 ghost use Rattle.std.specs.Prelude.{◌≡◌};
 ghost use Rattle.model.specs.Refusals.{wrong_size};
 ghost use Rattle.entries.specs.Clauses.{poses};

@@ -1,5 +1,7 @@
 // What the searches share: the three kinds of accesses, and an item's overall score, or a bound on it, under a rule
 // and weights.
+#![tactic(auto)]
+
 pub mod limits;
 pub mod seats;
 pub mod sliding;
@@ -11,19 +13,19 @@ ghost use Rattle.meeting.specs.Clauses.{read_at, unread, Located, Small};
 use entries::wide;
 
 // How many sorted accesses were made.
-#[derive(Drop)]
+#[derive(Clone, Copy)]
 pub struct Sorted(pub u32);
 
 // How many direct accesses were made.
-#[derive(Drop)]
+#[derive(Clone, Copy)]
 pub struct Direct(pub u32);
 
 // How many random accesses were made.
-#[derive(Drop)]
+#[derive(Clone, Copy)]
 pub struct Random(pub u32);
 
 // What a search has done when it stops: its rows or rounds, and its accesses by kind.
-#[derive(Drop)]
+#[derive(Clone, Copy)]
 pub struct Done {
     pub rows: u32,
     pub sorted: Sorted,

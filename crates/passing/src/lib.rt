@@ -1,4 +1,6 @@
 // The lists of the list check, all at once. Most sets pass, and one that does is swept as a whole; only a damaged one needs a walk.
+#![tactic(auto)]
+
 ghost use Rattle.std.specs.Prelude.{◌≡◌, ◌*◌, length};
 ghost use Rattle.entries.specs.Clauses.{poses};
 ghost use Rattle.passing.specs.Clauses.{Within, WholeNoted, Sweepable, RowsSwept};

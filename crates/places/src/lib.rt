@@ -1,4 +1,6 @@
 // The searches again, with the shortlist as rows: item, low and high of a place together.
+#![tactic(auto)]
+
 ghost use Rattle.model.specs.Searches.{TA, BPA, BPA2, NRA};
 ghost use Rattle.running.specs.Clauses.{search_at};
 ghost use Rattle.columns.specs.Clauses.{lent_rows, SearchedRows};

@@ -1,4 +1,6 @@
 // Rows of item, low and high, filled from a shortlist's columns.
+#![tactic(auto)]
+
 ghost use Rattle.std.specs.Prelude.{◌≡◌, ◌≤◌, ◌<◌, length};
 ghost use Rattle.model.specs.Words.{row};
 ghost use Rattle.placing.specs.Rows.{place_at, onto};
@@ -6,7 +8,7 @@ ghost use Rattle.placing.specs.Counts.{enough_of, lesser_of};
 
 // A place of the shortlist, as the host keeps it.
 #[repr(C)]
-#[derive(Drop)]
+#[derive(Clone, Copy)]
 pub struct Place {
     pub item: u16,
     pub low: u32,

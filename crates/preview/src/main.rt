@@ -1,13 +1,18 @@
 // The previewer's program: a query record and a list record from standard input, and what the four
 // searches find, or the first refusal, on standard output.
-use libc::{STDIN_FILENO, STDOUT_FILENO};
+#![tactic(auto)]
+
+// The descriptors of standard input and output.
+const STDIN: i32 = 0;
+
+const STDOUT: i32 = 1;
 
 // A byte more is taken than the longest two records have, so that one too many is told as such. The
 // text is whole before a byte of it is written. A read that fails is the end of the input, and a
 // write that fails the end of the output.
 fn main() {
     let mut bytes = [0u8; 33312];
-    let taken = io::read_full(STDIN_FILENO, &mut bytes);
+    let taken = io::read_full(STDIN, &mut bytes);
     let mut items = [0u16; 8192];
     let mut scores = [0u16; 8192];
     let mut picks = [0u16; 1024];
@@ -27,5 +32,5 @@ fn main() {
         &mut work,
         &mut out,
     );
-    io::write_all(STDOUT_FILENO, &out[..end]);
+    io::write_all(STDOUT, &out[..end]);
 }

@@ -1,4 +1,6 @@
 // The previewer's text: what its program prints for the bytes that it is given.
+#![tactic(auto)]
+
 ghost use Rattle.previewing.specs.Clauses.{Reading, Roomy, Previewed};
 
 use lines::{Asked, search_lines};

@@ -1,5 +1,7 @@
 // What a mark that rises changes: the k greatest of the marks, of which the least tells the k-th low, and the
 // items met, in the order in which they were.
+#![tactic(auto)]
+
 ghost use Rattle.std.specs.Prelude.{true, ◌≡◌, ◌≤◌, ◌<◌, length, get_or};
 ghost use Rattle.halting.specs.Clauses.{view, met_of, mark_of, Legible};
 ghost use Rattle.raising.specs.Clauses.{SeatBehind, Raised, NewlyGathered};

@@ -1,4 +1,6 @@
 // NRA's shortlist, written once: the first k of the items met after the row at which it stops.
+#![tactic(auto)]
+
 mod shortlist;
 
 ghost use Rattle.std.specs.Prelude.{◌-◌, ◌≤◌, ◌<◌};

@@ -1,4 +1,6 @@
 // The reads of a query record and of a list record, and the weights chosen from either.
+#![tactic(auto)]
+
 ghost use Rattle.std.specs.Prelude.{◌≡◌};
 ghost use Rattle.records.specs.Clauses.{value_of_query, query_refusal, value_of_lists, lists_refusal, QueryIsRead, ListsAreRead, WeightsChosen};
 
@@ -9,7 +11,7 @@ use heads::{lists_head, lists_m, lists_n, pair_at, query_count, query_head};
 // A caller hands `rule` and `k` on to a search with no cast: `rule` is the record's own byte, and
 // `k` a `usize`, as is all that a search counts with. `c` counts weights and `bytes` the bytes
 // taken, `usize` too, so that `&input[bytes..]` is what follows the record.
-#[derive(Drop)]
+#[derive(Clone, Copy)]
 pub struct QueryRead {
     pub number: u32,
     pub rule: u8,
@@ -20,7 +22,7 @@ pub struct QueryRead {
 
 // What the read of lists answers: a refusal's number with all else 0, or number 0 and the sizes,
 // which a caller hands on to a search with no cast.
-#[derive(Drop)]
+#[derive(Clone, Copy)]
 pub struct ListsRead {
     pub number: u32,
     pub m: usize,

@@ -1,4 +1,6 @@
 // The list check, the two reads and the chosen weights, told as C is told them: each answer's numbers in a lent array.
+#![tactic(auto)]
+
 ghost use Rattle.entries.specs.Clauses.{poses};
 ghost use Rattle.reporting.specs.Told.{CheckTold, QueryTold, ListsTold, PartTold};
 

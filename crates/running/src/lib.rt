@@ -1,4 +1,6 @@
 // The run of a search, once its tests are passed: TA, BPA, BPA2 or NRA, by its number.
+#![tactic(auto)]
+
 ghost use Rattle.std.specs.Prelude.{◌≤◌};
 ghost use Rattle.entries.specs.Clauses.{poses};
 ghost use Rattle.meeting.specs.Clauses.{query_with, Readable, Room};

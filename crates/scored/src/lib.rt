@@ -1,5 +1,7 @@
 // The searches that look an item's whole score up: TA, BPA and BPA2. They differ in the positions of a row or round
 // and in those of the threshold, so one loop serves all three.
+#![tactic(auto)]
+
 ghost use Rattle.entries.specs.Clauses.{poses};
 ghost use Rattle.meeting.specs.Clauses.{query_with};
 ghost use Rattle.scored.specs.Run.{Stepping, Stepped, Running, RanBy};

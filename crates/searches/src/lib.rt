@@ -1,5 +1,7 @@
 // The four searches by name, each the search of its number. That search, its answer and the answer's total are handed on, so
 // that a caller names this crate alone.
+#![tactic(auto)]
+
 ghost use Rattle.model.specs.Searches.{TA, BPA, BPA2, NRA};
 ghost use Rattle.admission.specs.Clauses.{lent_with};
 ghost use Rattle.answering.specs.Answered.{Searched};

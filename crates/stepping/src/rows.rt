@@ -126,7 +126,7 @@ fn looked(b: usize, n: usize) -> u32
 
 // What a round leaves: how many are kept, how many direct accesses it made, and a position of each list up to
 // which all are visited.
-#[derive(Drop)]
+#[derive(Clone, Copy)]
 pub struct Turn {
     pub filled: usize,
     pub found: u32,

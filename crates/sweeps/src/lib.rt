@@ -1,4 +1,6 @@
 // Sweeps over a whole slice. None has a way out before the slice's end, so that the compiler can take several entries in one step.
+#![tactic(auto)]
+
 ghost use Rattle.std.specs.Prelude.{◌≡◌, ◌+◌, ◌-◌, eqb, ltb, length, get_or};
 ghost use Rattle.model.specs.Words.{some_below, row};
 ghost use Rattle.laws.specs.Marks.{noted};

@@ -1,4 +1,6 @@
 // The tally written as a whole: cleared before visits are counted, or told once, after rows of which each position was visited once.
+#![tactic(auto)]
+
 ghost use Rattle.std.specs.Prelude.{◌≡◌, ◌++◌, ◌*◌, ◌≤◌, ltb, length, drop, replicate};
 ghost use Rattle.model.specs.Words.{row as row_of, table, over};
 ghost use Rattle.laws.specs.Lookups.{once};

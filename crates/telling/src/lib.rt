@@ -1,4 +1,6 @@
 // A search's answer told as C is told it: its numbers in a lent array.
+#![tactic(auto)]
+
 ghost use Rattle.running.specs.Clauses.{search_at};
 ghost use Rattle.admission.specs.Clauses.{lent_with};
 ghost use Rattle.telling.specs.Told.{AnswerTold, SearchTold};

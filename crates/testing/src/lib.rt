@@ -1,4 +1,6 @@
 // Tests of a search that ask about one thing each: k, the weights, the room that is lent. And the weights as numbers.
+#![tactic(auto)]
+
 ghost use Rattle.std.specs.Prelude.{◌≡◌, ◌+◌, ◌*◌, ◌≤◌, ◌<◌, length};
 ghost use Rattle.model.specs.Refusals.{pair as pair_of, wrong_k, wrong_weights};
 ghost use Rattle.testing.specs.Clauses.{no_room_of, Decoded};

@@ -1,4 +1,6 @@
 // The previewer's lines, written into a lent slice of bytes in the way of `fields`.
+#![tactic(auto)]
+
 ghost use Rattle.std.specs.Prelude.{◌+◌, ◌*◌, ◌≤◌, length};
 ghost use Rattle.model.specs.Program.{line as Program·line, refused_line};
 ghost use Rattle.fields.specs.Clauses.{Appended};

@@ -1,11 +1,12 @@
 // The fields of a case, taken from standard input.
 ghost use Rattle.std.specs.Prelude.{◌*◌, ◌≤◌, ◌≡◌, length};
 
-use libc::STDIN_FILENO;
+// The descriptor of standard input.
+const STDIN: i32 = 0;
 
 // A counted field: how many entries were read, and whether the input had all that it said and the
 // slice room for them.
-#[derive(Drop)]
+#[derive(Clone, Copy)]
 pub struct Taken {
     pub whole: bool,
     pub count: usize,
@@ -22,7 +23,7 @@ fn nothing() -> Taken
 
 // Fills the bytes: whether the input had that many.
 pub fn whole(bytes: &mut [u8]) -> bool {
-    let count = io::read_full(STDIN_FILENO, bytes);
+    let count = io::read_full(STDIN, bytes);
     count == bytes.len()
 }
 

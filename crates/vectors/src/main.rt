@@ -4,6 +4,8 @@
 // or asks for more than the arrays here hold, the program ends and prints nothing of it. They hold
 // more than any recorded case needs: 8,200 entries, of which the largest set takes 8,192, 1,100
 // places of a shortlist, 33,400 bytes.
+#![tactic(auto)]
+
 mod input;
 mod lend;
 mod of_check;

@@ -5,7 +5,7 @@ use crate::{input, lend, print};
 use searches::Answer;
 
 // Which search, TA, BPA, BPA2 and NRA from 0 on, with the sizes, the rule and the places asked for.
-#[derive(Drop)]
+#[derive(Clone, Copy)]
 struct Query {
     which: u8,
     m: usize,
@@ -16,7 +16,7 @@ struct Query {
 
 // The lengths of the slices to be written, and whether all were there and none is more than is lent
 // here.
-#[derive(Drop)]
+#[derive(Clone, Copy)]
 struct Room {
     whole: bool,
     picks: usize,

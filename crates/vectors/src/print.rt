@@ -1,9 +1,11 @@
 // What is printed of a case.
-use libc::STDOUT_FILENO;
 use searches::Answer;
 
+// The descriptor of standard output.
+const STDOUT: i32 = 1;
+
 pub fn text(bytes: &[u8]) {
-    io::write_all(STDOUT_FILENO, bytes);
+    io::write_all(STDOUT, bytes);
 }
 
 pub fn end() {
@@ -12,7 +14,7 @@ pub fn end() {
 
 // A number at the start of a line.
 pub fn first(x: usize) {
-    io::print_decimal(STDOUT_FILENO, x as u64);
+    io::print_decimal(STDOUT, x as u64);
 }
 
 // A space, and a number.

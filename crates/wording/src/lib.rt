@@ -1,4 +1,6 @@
 // The line of an answer: a search's name, counts and places, or a refusal.
+#![tactic(auto)]
+
 ghost use Rattle.std.specs.Prelude.{◌≡◌};
 ghost use Rattle.listing.specs.Clauses.{places_at};
 ghost use Rattle.wording.specs.Clauses.{all_names, name_at, AnswerRoom, AnswerWritten};
