@@ -1,5 +1,4 @@
 -- Slices written from the front, to their end or one list after the other.
---     one_fill                   equal entries over the first part
 --     two_fills                  a list's part of the tally after p rows: ones, and zeros from there on
 --     table_more                 one row more of a table
 -- Assumes nothing.
@@ -10,7 +9,7 @@ use native.Mathlib.Nat.{add-zero, add-suc}
 use native.Mathlib.Numerals.{add-one}
 use native.Mathlib.Omega.{arith}
 use lib.Dec.{ltb}
-use lib.ListN.{length, drop, replicate, length-replicate, replicate-append-replicate}
+use lib.ListN.{length, replicate, length-replicate, replicate-append-replicate}
 use lib.Seq.{drop-length}
 use borrow.Author.Tests.{lt-ltb, le-ltb}
 use borrow.Rule.Slice.PartMut.{put_mid}
@@ -26,11 +25,6 @@ over_whole l lent e = rw (e, drop-length lent) (append-nil l)
 over_first : (lent : List ℕ) (size x : ℕ) → size ≤ length lent → put_mid 0 (size - 0) lent (replicate size x) ≡ over (replicate size x) lent
 unfolding over
 over_first lent size x h = over_more [] (replicate size x) lent 0 size refl (omega (arith, length-replicate {A = ℕ} size x))
-
-pub one_fill : (lent : List ℕ) (size x : ℕ) → size ≤ length lent
-    → put_mid 0 (size - 0) lent (replicate size x) ≡ replicate size x ++ drop size lent
-unfolding over
-one_fill lent size x h = over_first lent size x h ∙ rw (length-replicate {A = ℕ} size x) refl
 
 -- one entry more at the end of equal ones
 replicate_more : (c x : ℕ) → replicate c x ++ replicate 1 x ≡ replicate (suc c) x
