@@ -17,13 +17,15 @@ damaged_here s bad = record { passes = λ told. absurd (false≢true told); dama
 
 pub returns-then-n-most : goal.returns-then-n-most
 returns-then-n-most c =
-    damaged_here (poses c.args.m c.args.n c.args.items.now c.args.scores.now)
-    (λ all. not_great (poses c.args.m c.args.n c.args.items.now c.args.scores.now) all c.requires.0.n_least c.requires.0.items_long c.greatest-most.ensures c.if-n-most.true)
+    let s = poses c.args.m c.args.n c.args.items.now c.args.scores.now in
+    damaged_here s
+    (λ all. not_great s all c.requires.0.n_least c.requires.0.items_long c.greatest-most.ensures c.if-n-most.true)
 
 pub note_until_rise-requires : goal.note_until_rise-requires
 note_until_rise-requires c =
-    let small : (i p : ℕ) → i < (poses c.args.m c.args.n c.args.items.now c.args.scores.now).m → p < (poses c.args.m c.args.n c.args.items.now c.args.scores.now).n → item (poses c.args.m c.args.n c.args.items.now c.args.scores.now) i p < (poses c.args.m c.args.n c.args.items.now c.args.scores.now).n =
-    all_small (poses c.args.m c.args.n c.args.items.now c.args.scores.now) c.requires.0.items_long c.greatest-most.ensures c.if-n-most.false in
+    let s = poses c.args.m c.args.n c.args.items.now c.args.scores.now in
+    let small : (i p : ℕ) → i < s.m → p < s.n → item s i p < s.n =
+    all_small s c.requires.0.items_long c.greatest-most.ensures c.if-n-most.false in
     let zeros = c.clear.ensures ∙ cleared (c.args.m * c.args.n) c.args.places.now c.requires.1 in
     record {
       within = c.requires.0;
@@ -32,21 +34,25 @@ note_until_rise-requires c =
     }
 
 pub returns-then-note_until_rise : goal.returns-then-note_until_rise
-returns-then-note_until_rise c = damaged_here (poses c.args.m c.args.n c.args.items.now c.args.scores.now) (λ all. not_rising (poses c.args.m c.args.n c.args.items.now c.args.scores.now) all (c.note_until_rise.ensures.rising c.if-note_until_rise.true))
+returns-then-note_until_rise c =
+    let s = poses c.args.m c.args.n c.args.items.now c.args.scores.now in
+    damaged_here s (λ all. not_rising s all (c.note_until_rise.ensures.rising c.if-note_until_rise.true))
 
 pub returns-then-has_zero : goal.returns-then-has_zero
 returns-then-has_zero c =
-    damaged_here (poses c.args.m c.args.n c.args.items.now c.args.scores.now)
+    let s = poses c.args.m c.args.n c.args.items.now c.args.scores.now in
+    damaged_here s
     (λ all.
-    not_empty (poses c.args.m c.args.n c.args.items.now c.args.scores.now) all (c.note_until_rise.ensures.swept c.if-note_until_rise.false)
+    not_empty s all (c.note_until_rise.ensures.swept c.if-note_until_rise.false)
     (sym c.has_zero.ensures ∙ c.if-has_zero.true))
 
 pub returns : goal.returns
 returns c =
-    let small : (i p : ℕ) → i < (poses c.args.m c.args.n c.args.items.now c.args.scores.now).m → p < (poses c.args.m c.args.n c.args.items.now c.args.scores.now).n → item (poses c.args.m c.args.n c.args.items.now c.args.scores.now) i p < (poses c.args.m c.args.n c.args.items.now c.args.scores.now).n =
-    all_small (poses c.args.m c.args.n c.args.items.now c.args.scores.now) c.requires.0.items_long c.greatest-most.ensures c.if-n-most.false in
+    let s = poses c.args.m c.args.n c.args.items.now c.args.scores.now in
+    let small : (i p : ℕ) → i < s.m → p < s.n → item s i p < s.n =
+    all_small s c.requires.0.items_long c.greatest-most.ensures c.if-n-most.false in
     let good =
-    all_pass (poses c.args.m c.args.n c.args.items.now c.args.scores.now) small
+    all_pass s small
     (c.note_until_rise.ensures.swept c.if-note_until_rise.false)
     (sym c.has_zero.ensures ∙ c.if-has_zero.false) in
     record { passes = λ _. good.0; damaged = λ told. absurd (true≢false told); notes = λ _. good.1 }
