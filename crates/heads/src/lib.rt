@@ -15,6 +15,7 @@ fn wide(x: u8) -> usize
 }
 
 // The number in the two bytes from `at` on, the higher one first.
+#[tactic(auto, unfolding(model::specs::Refusals::pair))]
 pub fn pair_at(bytes: &[u8], at: usize) -> usize
     requires { at + 1 < length bytes.now }
     ensures { (result ≡ pair bytes.now at) × (result < 65536) }
@@ -26,6 +27,7 @@ pub fn pair_at(bytes: &[u8], at: usize) -> usize
 
 // A record's length, in its first four bytes. It reaches 2^32 - 1, to which nothing can be added in
 // 32 bits, so it is a `usize`.
+#[tactic(auto, unfolding(model::specs::Records::quad))]
 fn length_of(bytes: &[u8]) -> usize
     requires { 4 ≤ length bytes.now }
     ensures { result ≡ quad bytes.now 0 }
@@ -34,6 +36,7 @@ fn length_of(bytes: &[u8]) -> usize
 }
 
 // How many weights a query record says that it has.
+#[tactic(auto, unfolding(model::specs::Records::query_count))]
 pub fn query_count(query: &[u8]) -> usize
     requires { 9 ≤ length query.now }
     ensures { (result ≡ query_count query.now) × (result < 256) }
@@ -42,6 +45,7 @@ pub fn query_count(query: &[u8]) -> usize
 }
 
 // How many lists a list record says that it has.
+#[tactic(auto, unfolding(model::specs::Records::lists_m))]
 pub fn lists_m(lists: &[u8]) -> usize
     requires { 8 ≤ length lists.now }
     ensures { (result ≡ lists_m lists.now) × (result < 256) }
@@ -50,6 +54,7 @@ pub fn lists_m(lists: &[u8]) -> usize
 }
 
 // How many items a list record says that it has.
+#[tactic(auto, unfolding(model::specs::Records::lists_n))]
 pub fn lists_n(lists: &[u8]) -> usize
     requires { 8 ≤ length lists.now }
     ensures { (result ≡ lists_n lists.now) × (result < 65536) }
@@ -58,6 +63,7 @@ pub fn lists_n(lists: &[u8]) -> usize
 }
 
 // The tests of a query record: the number of the first that refuses, and 0 where none does.
+#[tactic(auto, unfolding(model::specs::Records::query_head))]
 pub fn query_head(query: &[u8]) -> u32
     ensures { result ≡ (told (query_head query.now)).number }
 {
@@ -81,6 +87,7 @@ pub fn query_head(query: &[u8]) -> u32
 
 // The tests of a list record but for its last, 6, which is of the slices: the number of the first
 // that refuses, and 0 where none does.
+#[tactic(auto, using(laws::specs::Accepted::sized, laws::specs::Accepted::size_fits), unfolding(model::specs::Records::lists_head))]
 pub fn lists_head(lists: &[u8]) -> u32
     ensures { result ≡ (told (lists_head lists.now)).number }
 {

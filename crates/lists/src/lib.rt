@@ -12,6 +12,7 @@ use entries::{clear, passed, refusal, walk_list};
 use passing::note_whole;
 
 // Test 1: m is not 1 to 8 or n not 1 to 1,024.
+#[tactic(auto, unfolding(model::specs::Refusals::wrong_size))]
 pub fn wrong_size(m: usize, n: usize) -> bool
     ensures { result ≡ wrong_size m n }
 {

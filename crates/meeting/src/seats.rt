@@ -3,6 +3,7 @@ ghost use Rattle.std.specs.Prelude.{◌≡◌, ◌≤◌, length};
 ghost use Rattle.meeting.specs.Clauses.{ahead_of, Seated};
 
 // Item d with its low and high stands before item e with its own.
+#[tactic(auto, unfolding(crate::specs::Clauses::ahead_of))]
 fn ahead(d: u16, low: u32, high: u32, e: u16, lo: u32, hi: u32) -> bool
     ensures { result ≡ ahead_of d low high e lo hi }
 {

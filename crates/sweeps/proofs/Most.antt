@@ -3,6 +3,7 @@
 --     greatest_start         of none
 --     greatest_here          the next is greater than those before it
 --     greatest_before        it is not, so that what was greatest stands
+--     greatest_next          it is or it is not
 -- Assumes nothing.
 use mathlib.Core.Path.{◌≡◌, sym, ◌∙◌}
 use mathlib.Core.Bool.{true, false, or-false, or-true}
@@ -43,3 +44,14 @@ module _ (numbers : List ℕ) where
         (λ (y : ltb bar next ≡ true).
         rw (add-one q, y, or-true) (lt-ltb bar before (omega (arith, ltb-true bar next y))))
         (λ (z : ltb bar next ≡ false). rw (add-one q, z, or-false) (so bar))
+
+    pub greatest_next : {after : ℕ} → (before < get_or numbers q 0 → after ≡ get_or numbers q 0)
+        → (get_or numbers q 0 ≤ before → after ≡ before) → GreatestOf (q + 1) after
+    greatest_next here elsewhere =
+        by_cases (ltb before (get_or numbers q 0))
+        (λ (y : ltb before (get_or numbers q 0) ≡ true).
+        let above = ltb-true before (get_or numbers q 0) y in
+        rw (here above) (greatest_here above))
+        (λ (z : ltb before (get_or numbers q 0) ≡ false).
+        let below = ltb-false before (get_or numbers q 0) z in
+        rw (elsewhere below) (greatest_before below))

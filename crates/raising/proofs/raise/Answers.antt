@@ -1,0 +1,25 @@
+-- `raising::raise` meets its contract: a mark that is not above the least leaves all as it is, any other is slid in, and the entry
+-- of the old mark or the least goes.
+-- Assumes nothing.
+use Prim.Native.Nat.{◌≤◌}
+use native.Mathlib.Omega.{arith}
+use lib.Dec.{leb}
+use borrow.Author.Tests.{leb-true, leb-false}
+use Rattle.laws.specs.Tests.{by_cases}
+use Rattle.raising.proofs.Raising.{raised_stays, raised_slid}
+use Rattle.raising.proofs.raise.Goals as goal
+
+pub returns-then-new-tops : goal.returns-then-new-tops
+returns-then-new-tops c = raised_stays c.requires.0 c.if-new-tops.true
+
+pub returns : goal.returns
+returns c =
+    let one-before : 1 ≤ c.seat-behind.result =
+    let r = c.seat-behind.result in
+    by_cases (leb 1 r)
+    (λ y. leb-true 1 r y)
+    (λ z.
+    let none = leb-false 1 r z in
+    absurd (omega (arith, c.seat-behind.ensures.rest_less 0 (omega arith) (omega (arith, c.requires.0)), c.requires.2))) in
+    rw c.slide_scores.ensures
+    (raised_slid c.requires.0 c.if-new-tops.false one-before c.seat-behind.ensures c.seat-at.ensures)
