@@ -44,21 +44,21 @@ returns c =
     let v = view c.args.m c.args.n c.args.rule c.args.weights c.args.scores.now c.args.work.now in
     let marks = c.args.marks.now in
     let d = c.wide-d.result in
-    let item-is = c.wide-d.ensures in
+    let item_is = c.wide-d.ensures in
     let begun = c.requires.2 in
     let small = read_small in
     let new : c.mark-new.result ≡ mark_of v c.args.p d = c.mark-new.ensures in
     let rises : get_or marks d 0 ≤ c.mark-new.result =
     rw (new, begun.marks_are d small) (row_mark_most v c.args.items.now c.args.p c.args.i d) in
     let stored : Begun v c.args.items.now c.args.p (c.args.i + 1) (set marks d c.mark-new.result) =
-    rw (new, item-is) (begun_next c.args.i (c.requires.0.rowed.item_small c.args.i c.requires.1) begun) in
+    rw (new, item_is) (begun_next c.args.i (c.requires.0.rowed.item_small c.args.i c.requires.1) begun) in
     let some : 1 ≤ c.mark-new.result =
-    rw new (mark_least v c.args.p d (rw item-is (row_met c.requires.0.rowed _ _ c.requires.1 (omega arith)))) in
-    let known : get_or marks (get_or c.args.items.now (c.args.i * c.args.n + c.args.p - 1) 0) 0 ≡ get_or marks d 0 = sym (ap (λ x. get_or marks x 0) item-is) in (
+    rw new (mark_least v c.args.p d (rw item_is (row_met c.requires.0.rowed _ _ c.requires.1 (omega arith)))) in
+    let known : get_or marks (get_or c.args.items.now (c.args.i * c.args.n + c.args.p - 1) 0) 0 ≡ get_or marks d 0 = sym (ap (λ x. get_or marks x 0) item_is) in (
       stored,
       c.raise.ensures.raises c.args.n d marks begun.marks_long small refl rises c.requires.3,
-      rw item-is
-          (c.gather.ensures.gathers c.args.n c.mark-new.result marks begun.marks_long (rw item-is at small) known some
+      rw item_is
+          (c.gather.ensures.gathers c.args.n c.mark-new.result marks begun.marks_long (rw item_is at small) known some
           c.requires.4),
       c.gather.ensures.grows,
     )

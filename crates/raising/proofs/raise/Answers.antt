@@ -14,7 +14,7 @@ returns-then-new-tops c = raised_stays c.requires.0 c.if-new-tops.true
 
 pub returns : goal.returns
 returns c =
-    let one-before : 1 ≤ c.seat-behind.result =
+    let one_before : 1 ≤ c.seat-behind.result =
     let r = c.seat-behind.result in
     by_cases (leb 1 r)
     (λ y. leb-true 1 r y)
@@ -22,4 +22,4 @@ returns c =
     let none = leb-false 1 r z in
     absurd (omega (arith, c.seat-behind.ensures.rest_less 0 (omega arith) (omega (arith, c.requires.0)), c.requires.2))) in
     rw c.slide_scores.ensures
-    (raised_slid c.requires.0 c.if-new-tops.false one-before c.seat-behind.ensures c.seat-at.ensures)
+    (raised_slid c.requires.0 c.if-new-tops.false one_before c.seat-behind.ensures c.seat-at.ensures)
