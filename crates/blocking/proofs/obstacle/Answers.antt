@@ -1,14 +1,13 @@
 -- `blocking::obstacle` meets its contract: one item in the way keeps the test from holding, and where there is none the number of highs
 -- above the bar tells, which is no more than k where no more lows reach the bar.
 -- Assumes nothing.
-use mathlib.Core.Path.{◌≡◌, sym, ◌∙◌}
-use mathlib.Core.Bool.{true}
-use Prim.Native.Nat.{ℕ, ◌-◌, ◌<◌}
+use mathlib.Core.Path.{sym, ◌∙◌}
+use Prim.Native.Nat.{◌-◌, ◌<◌}
 use native.Mathlib.Omega.{arith}
 use lib.Dec.{ltb}
-use borrow.Author.Tests.{lt-ltb, ltb-true, ltb-false}
+use borrow.Author.Tests.{ltb-true}
 use Rattle.laws.specs.Tests.{and_yes}
-use Rattle.halting.specs.Clauses.{view, Barred, unmet_of, passes_of}
+use Rattle.halting.specs.Clauses.{Barred, unmet_of}
 use Rattle.halting.specs.Marks.{halts_few, halts_not, halts_unmet, halts_yes, halts_reach}
 use Rattle.halting.specs.Gathering.{gathered_count, gathered_most, gathered_named, gathered_reach}
 use Rattle.blocking.proofs.Obstacles.{stuck_at, free_at, all_clear}
@@ -51,13 +50,8 @@ unfolding unmet_of
 returns-then-reach-k c =
     let barred : Barred c.args.n c.args.k c.args.marks.now (c.args.top - 1) =
     c.requires.4.barred (omega (arith, c.if-top-eq0.false)) in
-    let clear : (d : ℕ) → d < c.args.n
-    → passes_of
-    (view c.args.m c.args.n c.args.rule c.args.weights c.args.scores.now c.args.work.now)
-    c.args.p (c.args.top - 1) d ≡ true =
-    let told = c.unmet_in_the_way.ensures in
-    all_clear c.requires.0 c.requires.1 c.requires.2 (c.met_in_the_way-found.ensures.none_there (omega (arith, c.if-found-count.false)))
-    (λ short. ltb-false _ _ (sym (rw (lt-ltb _ _ short) at told) ∙ c.if-unmet_in_the_way.false)) in
+    let clear = all_clear (c.args.top - 1) c.requires.0 c.requires.1 c.requires.2 (c.met_in_the_way-found.ensures.none_there (omega (arith, c.if-found-count.false)))
+    (sym c.unmet_in_the_way.ensures ∙ c.if-unmet_in_the_way.false) in
     free_at _ _ _ _
     (halts_reach c.requires.0 c.requires.1 c.args.k _ c.requires.3 barred clear
     (omega (arith, gathered_reach c.requires.2 (c.args.top - 1), c.reach.ensures, c.if-reach-k.true)))
@@ -67,13 +61,8 @@ unfolding unmet_of
 returns-then-few_above c =
     let barred : Barred c.args.n c.args.k c.args.marks.now (c.args.top - 1) =
     c.requires.4.barred (omega (arith, c.if-top-eq0.false)) in
-    let clear : (d : ℕ) → d < c.args.n
-    → passes_of
-    (view c.args.m c.args.n c.args.rule c.args.weights c.args.scores.now c.args.work.now)
-    c.args.p (c.args.top - 1) d ≡ true =
-    let told = c.unmet_in_the_way.ensures in
-    all_clear c.requires.0 c.requires.1 c.requires.2 (c.met_in_the_way-found.ensures.none_there (omega (arith, c.if-found-count.false)))
-    (λ short. ltb-false _ _ (sym (rw (lt-ltb _ _ short) at told) ∙ c.if-unmet_in_the_way.false)) in
+    let clear = all_clear (c.args.top - 1) c.requires.0 c.requires.1 c.requires.2 (c.met_in_the_way-found.ensures.none_there (omega (arith, c.if-found-count.false)))
+    (sym c.unmet_in_the_way.ensures ∙ c.if-unmet_in_the_way.false) in
     free_at _ _ _ _
     (halts_yes c.requires.0 c.requires.1 c.args.k _ c.requires.3 barred clear
     ∙ sym c.few_above.ensures ∙ c.if-few_above.true)
@@ -83,13 +72,8 @@ unfolding unmet_of
 returns c =
     let barred : Barred c.args.n c.args.k c.args.marks.now (c.args.top - 1) =
     c.requires.4.barred (omega (arith, c.if-top-eq0.false)) in
-    let clear : (d : ℕ) → d < c.args.n
-    → passes_of
-    (view c.args.m c.args.n c.args.rule c.args.weights c.args.scores.now c.args.work.now)
-    c.args.p (c.args.top - 1) d ≡ true =
-    let told = c.unmet_in_the_way.ensures in
-    all_clear c.requires.0 c.requires.1 c.requires.2 (c.met_in_the_way-found.ensures.none_there (omega (arith, c.if-found-count.false)))
-    (λ short. ltb-false _ _ (sym (rw (lt-ltb _ _ short) at told) ∙ c.if-unmet_in_the_way.false)) in
+    let clear = all_clear (c.args.top - 1) c.requires.0 c.requires.1 c.requires.2 (c.met_in_the_way-found.ensures.none_there (omega (arith, c.if-found-count.false)))
+    (sym c.unmet_in_the_way.ensures ∙ c.if-unmet_in_the_way.false) in
     stuck_at _ _ _ _ _ c.requires.5 c.requires.6
     (halts_yes c.requires.0 c.requires.1 c.args.k _ c.requires.3 barred clear
     ∙ sym c.few_above.ensures ∙ c.if-few_above.false)
