@@ -5,8 +5,7 @@
  *   driver K same                makes each call by the proved function and by its twins; names the first that differ in any byte
  *
  * The set is m and n (8 bytes each), then the items and the scores, list by list (2 bytes each), low byte first. The rule is the sum,
- * every weight 1. Status 1 where two differ, 2 where it is called wrongly. C99 without headers: a compiler for another machine may
- * have none.
+ * every weight 1. Status 1 where two differ, 2 where it is called wrongly. C99 without headers.
  */
 typedef __SIZE_TYPE__ size_t;
 typedef __UINT8_TYPE__ uint8_t;
@@ -36,12 +35,6 @@ typedef uint32_t check(size_t m, size_t n, const uint16_t *items, size_t items_l
 extern search rutlark_ta, rutlark_bpa, rutlark_bpa2, rutlark_nra;
 extern search plain_ta, plain_bpa, plain_bpa2, plain_nra, plain_nra_recomputed, plain_nra_where_asked, plain_scan;
 extern check rutlark_check_lists, plain_check_lists;
-
-/* Where Rust's own library is not linked, a panic comes here. */
-void panicked(void)
-{
-    __builtin_trap();
-}
 
 enum { MOST_LISTS = 8, MOST_ITEMS = 1024, MOST = MOST_LISTS * MOST_ITEMS };
 

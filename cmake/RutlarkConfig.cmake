@@ -1,4 +1,4 @@
-# find_package(Rutlark) gives the target rutlark::rutlark: the static library and its header, for x86-64.
+# find_package(Rutlark) gives the target rutlark::rutlark: the static library and its header.
 get_filename_component(_rutlark_prefix "${CMAKE_CURRENT_LIST_DIR}/../../.." ABSOLUTE)
 if(NOT TARGET rutlark::rutlark)
   add_library(rutlark::rutlark STATIC IMPORTED)

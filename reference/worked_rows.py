@@ -489,8 +489,8 @@ def print_case(name):
 
 # How the proved table calls the cases.
 NAMES_IN_THE_TABLE = {
-    "A": "caseA", "B": "caseB", "C": "caseC", "D": "caseD", "E": "caseE",
-    "B rule 1 k 1": "smallestB", "B rule 2 k 1": "largestB", "tied lows": "tiedLows",
+    "A": "case_a", "B": "case_b", "C": "case_c", "D": "case_d", "E": "case_e",
+    "B rule 1 k 1": "smallest_b", "B rule 2 k 1": "largest_b", "tied lows": "tied_lows",
     "000 figure 1": "figure1", "000 figure 2": "figure2", "001 example 1": "example1",
 }
 

@@ -9,6 +9,7 @@ use lists::Checked;
 use testing::{no_room, wrong_k, wrong_weights};
 
 // Tests 1 to 6, in that order: the first number met, or 0. The slices count by their lengths.
+#[tactic(auto, using(laws::specs::Accepted::sized, laws::specs::Accepted::size_fits), unfolding(crate::specs::Clauses::shape_of, model::specs::Refusals::wrong_rule))]
 fn shape(
     m: usize,
     n: usize,

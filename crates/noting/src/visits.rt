@@ -23,6 +23,7 @@ pub fn visit(d: usize, m: usize, n: usize, tally: &mut [u8], work: &[u16])
 
 // The first position of list i, from `from` on, that was not visited; n where there is none. All before
 // `from` were, so nothing is searched from the front again.
+#[tactic(auto, using(crate::proofs::Visiting::walked_is))]
 pub fn walk_on(i: usize, m: usize, n: usize, from: usize, tally: &[u8]) -> usize
     requires { Walkable i m n from tally.now }
     ensures { result ≡ walked_to i n tally.now }

@@ -7,7 +7,7 @@ use mathlib.Core.Path.{◌≡◌, refl}
 use mathlib.Core.List.{List}
 use Prim.Native.Nat.{ℕ, ◌+◌, ◌-◌}
 use denote.Ref.{Bor}
-use borrow.Rule.Slice.PartAt.{sl_part}
+use borrow.Rule.Slice.PartAt.{sl_partˢ}
 use Rattle.model.specs.Records.{Part, Record, the_query, the_lists, chosen, record_of, part_of}
 use Rattle.records.specs.Clauses.{lent_of, start_of, WeightsChosen}
 
@@ -17,13 +17,13 @@ lent_holds the_query query lists = refl
 lent_holds the_lists query lists = refl
 
 module _ (query lists : Bor (List ℕ)) (part : Part) where
-  abbrev pub part_from : ℕ → ℕ → Bor (List ℕ)
-  part_from e g =
+  abbrev pub part_from : ℕ → Bor (List ℕ)
+  part_from e =
       let from = lent_of part.source query lists in
-      sl_part from (part.start + from.ptr.1) part.start e g
+      sl_partˢ from (part.start + from.ref_ptr.1) part.start e
 
-  pub part_chosen : (e g : ℕ) → chosen query.now lists.now ≡ part → e - part.start ≡ part.size
-      → WeightsChosen query lists (part_from e g)
+  pub part_chosen : (e : ℕ) → chosen query.now lists.now ≡ part → e - part.start ≡ part.size
+      → WeightsChosen query lists (part_from e)
   unfolding start_of part_of
-  part_chosen e g is_chosen long =
+  part_chosen e is_chosen long =
       record { holds = rw (is_chosen, long, lent_holds part.source query lists); stands = rw is_chosen }

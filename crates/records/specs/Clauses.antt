@@ -45,7 +45,7 @@ lent_of the_lists query lists = lists
 unfoldable pub start_of : Part → Bor (List ℕ) → Bor (List ℕ) → ℕ × ℕ
 start_of part query lists =
     let from = lent_of part.source query lists in
-    (from.ptr.0, part.start + from.ptr.1)
+    (from.ref_ptr.0, part.start + from.ref_ptr.1)
 
 -- The weights chosen, at every two byte strings: they hold the bytes of the chosen part, and are "that part of the one
 -- record or the other, uncopied": they stand where the part does

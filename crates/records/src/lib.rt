@@ -43,6 +43,7 @@ fn query_refused(number: u32) -> QueryRead
 }
 
 // Reads the query record that stands at the start of `bytes`; other records may follow it.
+#[tactic(auto, using(crate::specs::Held::query_accepted, crate::specs::Held::query_held, crate::proofs::Reading::query_refused, crate::proofs::Reading::query_taken))]
 pub fn read_query(bytes: &[u8]) -> QueryRead
     ensures { QueryIsRead bytes.now result }
 {
@@ -70,6 +71,7 @@ fn lists_refused(number: u32) -> ListsRead
 
 // Reads the list record that `bytes` is into an item slice and a score slice. Entries past m x n
 // stay as lent, and so do both slices where the read is refused.
+#[tactic(auto, using(crate::specs::Held::lists_accepted, crate::proofs::Reading::sizes_read, crate::proofs::Reading::lists_refused, crate::proofs::Reading::items_short, crate::proofs::Reading::scores_short, crate::proofs::Reading::lists_taken))]
 pub fn read_lists(bytes: &[u8], items: &mut [u16], scores: &mut [u16]) -> ListsRead
     ensures { ListsAreRead bytes.now items.old scores.old result
         items.new scores.new }
@@ -96,6 +98,7 @@ pub fn read_lists(bytes: &[u8], items: &mut [u16], scores: &mut [u16]) -> ListsR
 // The weights that a query is to be searched with: its own, or where it has none the house weights
 // of the lists. They are a part of the one record or the other, uncopied, and empty where the read
 // of either refuses it by another number than 6.
+#[tactic(auto, using(crate::specs::Held::query_accepted, crate::specs::Held::query_held, crate::specs::Held::lists_accepted, crate::specs::Held::lists_held))]
 pub fn chosen_weights<'a>(query: &'a [u8], lists: &'a [u8]) -> &'a [u8]
     ensures { WeightsChosen query.entry lists.entry result }
 {

@@ -5,6 +5,7 @@ ghost use Rattle.entries.specs.Clauses.{poses};
 ghost use Rattle.reporting.specs.Told.{CheckTold, QueryTold, ListsTold, PartTold};
 
 // The list check by itself.
+#[tactic(auto, using(crate::proofs::Telling::check_told))]
 pub fn check_told(
     m: usize,
     n: usize,
@@ -22,6 +23,7 @@ pub fn check_told(
 }
 
 // The read of a query record. The array's numbers are `usize`, as a search takes them.
+#[tactic(auto, using(crate::proofs::Telling::query_told))]
 pub fn query_told(bytes: &[u8], told: &mut [usize; 5]) -> u32
     ensures { QueryTold bytes.now result told.new }
 {
@@ -31,6 +33,7 @@ pub fn query_told(bytes: &[u8], told: &mut [usize; 5]) -> u32
 }
 
 // The read of a list record into two slices.
+#[tactic(auto, using(crate::proofs::Telling::lists_told))]
 pub fn lists_told(bytes: &[u8], items: &mut [u16], scores: &mut [u16], told: &mut [usize; 3]) -> u32
     ensures { ListsTold bytes.now items.old scores.old result
         told.new items.new scores.new }

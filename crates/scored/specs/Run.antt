@@ -4,7 +4,7 @@
 --     Stepping, Stepped              what one row or round asks and promises
 --     Running, RanBy                 what a run asks and promises
 -- Assumes nothing.
-use Rattle.std.specs.Prelude.{◌≡◌, refl, cond, List, map, ℕ, ◌+◌, ◌-◌, ◌*◌, ◌≤◌, ◌<◌, eqb, length}
+use Rattle.std.specs.Prelude.{◌≡◌, refl, cond, List, map, ℕ, ◌+◌, ◌*◌, ◌≤◌, ◌<◌, eqb, length}
 use Rattle.model.specs.Words.{over}
 use Rattle.model.specs.Given.{Poses, Query, total}
 use Rattle.model.specs.Accesses.{Kind, sorted, direct, random, Access, rows_ta, rounds, best, made, tally}

@@ -3,16 +3,17 @@
 --     tally_after            one visit in every list is one lookup
 --     met_told               list 1's tally tells whether the item was met
 --     meets_again, meets_new     the state after a lookup of an item that was met before, and of a new one
+--     met_again, met_first       the same, wherever the item was found
 -- Assumes nothing.
 use mathlib.Core.Path.{◌≡◌, refl, sym, ap, ◌∙◌}
 use mathlib.Core.Bool.{true, false, ◌&&◌, ◌||◌, or-false, or-true, true≢false}
 use mathlib.Core.List.{List, ◌++◌}
 use Prim.Native.Nat.{ℕ, ◌+◌, ◌-◌, ◌*◌, ◌<◌}
-use native.Mathlib.Nat.{zero-mul, zero-add}
+use native.Mathlib.Nat.{zero-mul, zero-add, pos_of_ne-zero}
 use native.Mathlib.Omega.{arith}
 use lib.Dec.{eqb, leb, ltb}
 use lib.ListN.{length, get_or, take}
-use borrow.Author.Tests.{eqb-true, le-leb, lt-ltb}
+use borrow.Author.Tests.{eqb-true, le-leb, lt-leb, lt-ltb}
 use Rattle.model.specs.Words.{table, over}
 use Rattle.model.specs.Given.{Poses, Query, item, score, place, joined, overall, total}
 use Rattle.model.specs.Accesses.{Kind, Access, lookup, times, met, tally}
@@ -26,10 +27,11 @@ use Rattle.laws.specs.Ahead.{ahead_ordering}
 use Rattle.laws.specs.Ranking.{among_at, ranked_same, ranked_more, ranked_among, take_insert}
 use Rattle.laws.specs.Kept.{take_among}
 use Rattle.laws.specs.Overall.{joined_same}
-use Rattle.meeting.specs.Clauses.{read_at, unread}
-use Rattle.meeting.specs.Shortlist.{Listing}
+use Rattle.entries.specs.Clauses.{poses}
+use Rattle.meeting.specs.Clauses.{query_with, read_at, unread}
+use Rattle.meeting.specs.Shortlist.{Listing, Inserted}
 use Rattle.noting.specs.Clauses.{visited_in, visited_once}
-use Rattle.stepping.specs.State.{ranking, State}
+use Rattle.stepping.specs.State.{ranking, State, Met}
 use Rattle.stepping.specs.Steps.{mark_at}
 
 module _ (s : Poses) (q : Query) (work : List ℕ) (v : Valid s) (w : Placed s work) where
@@ -137,3 +139,42 @@ module _ (s : Poses) (q : Query) (work : List ℕ) (v : Valid s) (w : Placed s w
               tally_is = visits ∙ tally_after tr tally₀ at.tally_is a i p d hi hp found hd;
               tally_as_long = long ∙ at.tally_as_long;
             }
+
+module _ {m n rule k filled : ℕ} {weights scores picks lows marks marks' work : List ℕ} (d : ℕ) (small : d < n)
+    (visits : marks' ≡ visited_once d m n work marks) (long : length marks' ≡ length marks) where
+  pub met_again : (get_or marks (get_or work d 0 - 1) 0 ≡ 0 → ⊥)
+      → Met d m n rule k filled weights scores picks lows marks work filled picks lows marks'
+  met_again some =
+      record {
+        looks_up = λ items tr a i p v w whole hi hp found.
+            record {
+              step = λ picks₀ lows₀ tally₀ at.
+                  let s = poses m n items scores in
+                  let q = query_with rule weights in
+                  let old =
+                  met_told s q work v w tr tally₀ at.tally_is whole d small
+                  ∙ le-leb 1 (get_or marks (get_or work d 0 - 1) 0) (pos_of_ne-zero some) in
+                  meets_again s q work v w whole a i p d hi hp found small at visits long old;
+            };
+      }
+
+  pub met_first : {filled' : ℕ} {picks' lows' : List ℕ} (x : ℕ) → get_or marks (get_or work d 0 - 1) 0 ≡ 0
+      → x ≡ joined rule (λ i. read_at n scores work d n (unread false n scores n) i * get_or weights i 0) m
+      → Inserted d x x k filled picks lows lows filled' picks' lows' lows'
+      → Met d m n rule k filled weights scores picks lows marks work filled' picks' lows' marks'
+  met_first x none is inserted =
+      record {
+        looks_up = λ items tr a i p v w whole hi hp found.
+            record {
+              step = λ picks₀ lows₀ tally₀ at.
+                  let s = poses m n items scores in
+                  let q = query_with rule weights in
+                  let fresh =
+                  met_told s q work v w tr tally₀ at.tally_is whole d small
+                  ∙ lt-leb 1 (get_or marks (get_or work d 0 - 1) 0) (omega (arith, none)) in
+                  let score : x ≡ total s q d = is ∙ score_is s q work v w d small in
+                  meets_new s q work v w whole a i p d hi hp found small at visits long fresh
+                  (inserted.inserts (total s q) (total s q) (take k (ranking s q tr)) picks₀ lows₀ lows₀ score score
+                  (not_kept s q work v w whole a i p d hi hp found small k fresh) at.shortlist);
+            };
+      }

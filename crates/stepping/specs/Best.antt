@@ -2,7 +2,7 @@
 --     walked_best        the walk in the tally slice ends at the list's best position
 --     walkable_of        what such a walk asks
 -- Assumes nothing.
-use Rattle.std.specs.Prelude.{◌≡◌, true, false, List, ℕ, ◌+◌, ◌-◌, ◌*◌, ◌≤◌, ◌<◌, leb, length, get_or}
+use Rattle.std.specs.Prelude.{◌≡◌, true, false, List, ℕ, ◌+◌, ◌*◌, ◌≤◌, ◌<◌, leb, length, get_or}
 use Rattle.std.proofs.Math.Bool.{not}
 use Rattle.std.proofs.Common.{arith, eq-eqb, ne_eqb, leb-true, leb-false}
 use Rattle.std.proofs.Math.Dec.{eqb}

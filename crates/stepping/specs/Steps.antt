@@ -125,8 +125,8 @@ pub row_count : (s : Poses) → Valid s → (p i j d : ℕ) → p < s.n → i �
     → times (rows_ta s p ++ row_ta s p i) j (place s j d) ≤ 8
 unfolding rows_ta
 row_count s v p i j d hp hi hj hd =
-    let IsPlace-in = v.has_place j d hj hd in
-    let all : times (rows_ta s p ++ row_ta s p s.m) j (place s j d) ≤ s.m = rows_most s v (suc p) j (place s j d) (omega arith) hj IsPlace-in in
+    let place_in = v.has_place j d hj hd in
+    let all : times (rows_ta s p ++ row_ta s p s.m) j (place s j d) ≤ s.m = rows_most s v (suc p) j (place s j d) (omega arith) hj place_in in
     omega (
       arith,
       times_append (rows_ta s p) (row_ta s p i) j (place s j d),

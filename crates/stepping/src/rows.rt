@@ -11,6 +11,7 @@ use noting::{shortlist, visits};
 
 // Item d is found: one visit of its position in every list and, where it is new, its score and its place
 // in the shortlist. It is new where list 1 was never visited at its position. Gives how many are kept then.
+#[tactic(auto, using(crate::proofs::Meetings::met_again))]
 pub fn meet(
     d: u16,
     m: usize,

@@ -14,6 +14,7 @@ fn pair(bytes: &[u8], at: usize) -> u32
 }
 
 // Test 2: k is 0 or above n.
+#[tactic(auto, unfolding(model::specs::Refusals::wrong_k))]
 pub fn wrong_k(k: usize, n: usize) -> bool
     ensures { result ≡ wrong_k k n }
 {
@@ -24,6 +25,7 @@ pub fn wrong_k(k: usize, n: usize) -> bool
 }
 
 // Test 4: the weights are not 2m bytes, or one is above 1,000.
+#[tactic(auto, using(crate::proofs::Heavy::heavy_found, laws::specs::Tests::some_none), unfolding(model::specs::Refusals::wrong_weights, model::specs::Refusals::weight_of))]
 pub fn wrong_weights(m: usize, weights: &[u8]) -> bool
     requires { m ≤ 8 }
     ensures { result ≡ wrong_weights m weights.now }
@@ -42,6 +44,7 @@ pub fn wrong_weights(m: usize, weights: &[u8]) -> bool
 }
 
 // The weights as numbers, list by list; 0 past the last.
+#[tactic(auto, using(crate::specs::Weights::weight_past, laws::specs::Lists::zeros_at), unfolding(model::specs::Refusals::weight_of))]
 pub fn decode(m: usize, weights: &[u8]) -> [u32; 8]
     requires { (m ≤ 8) × (length weights.now ≡ 2 * m) }
     ensures { Decoded weights.now result }

@@ -1,17 +1,13 @@
 -- The four names, joined, and the part that each is.
---     names_long                         how long they are
 --     name_first .. name_fourth          the parts
 -- Assumes nothing.
-use mathlib.Core.Path.{◌≡◌, refl, ap}
+use mathlib.Core.Path.{◌≡◌, refl}
 use mathlib.Core.List.{List}
 use Prim.Native.Nat.{ℕ, zero, suc}
-use lib.ListN.{length, take, drop}
+use lib.ListN.{take, drop}
 use Rattle.wording.specs.Clauses.{all_names, name_at}
 
 module _ {names : List ℕ} (e : names ≡ all_names) where
-  pub names_long : length names ≡ 12
-  names_long = ap length e
-
   pub name_first : {which : ℕ} → which ≡ 0 → take 2 names ≡ name_at which
   unfolding name_at
   name_first h = rw (e, h)

@@ -1,7 +1,8 @@
 -- The text of an answer, and how long it is.
 --     text_found, text_refused       an answer's text, by its two ways
 --     named_short                    a name has at most four letters
---     Held, found_short, refused_short       numbers as an answer and its slices hold them: neither line is longer than its room
+--     refused_short                  a refusal's line is no longer than its room
+--     Held, found_short              numbers as an answer and its slices hold them: nor is a search's line
 -- Assumes nothing.
 use mathlib.Core.Path.{◌≡◌}
 use mathlib.Core.List.{List}
@@ -39,11 +40,13 @@ name_short (suc (suc (suc which))) = omega arith
 pub named_short : (which : ℕ) {name : List ℕ} → name ≡ name_at which → length name ≤ 4
 named_short which same = rw same (name_short which)
 
--- Numbers as an answer and its slices hold them: those of 32 bits have at most ten digits, an item has at most five
+pub refused_short : (a : Answer) → a.number < 2 ^ 32 → a.list < 2 ^ 32 → a.position < 2 ^ 32
+    → length (refused_line a.number a.list a.position) ≤ line_room
+refused_short a number_fits list_fits position_fits =
+    omega (arith, refused_most a.number a.list a.position number_fits list_fits position_fits)
+
+-- Numbers of a search as an answer and its slices hold them: those of 32 bits have at most ten digits, an item has at most five
 pub record Held (a : Answer) (picks lows highs : List ℕ) : Type 0 where
-  pub number_fits : a.number < 2 ^ 32
-  pub list_fits : a.list < 2 ^ 32
-  pub position_fits : a.position < 2 ^ 32
   pub rows_fit : a.rows < 2 ^ 32
   pub sorted_fit : a.sorted.0 < 2 ^ 32
   pub direct_fit : a.direct.0 < 2 ^ 32
@@ -63,7 +66,3 @@ module _ {a : Answer} {picks lows highs : List ℕ} (held : Held a picks lows hi
             held.rows_fit held.sorted_fit held.direct_fit held.random_fit
             held.picks_fit held.lows_fit held.highs_fit,
       )
-
-  pub refused_short : length (refused_line a.number a.list a.position) ≤ line_room
-  refused_short =
-      omega (arith, refused_most a.number a.list a.position held.number_fits held.list_fits held.position_fits)

@@ -1,4 +1,4 @@
--- `lists::walk_lists` meets its contract. The loop's invariant: i lists have passed and their rows are noted (`RowsNoted`), and
+-- `lists::walk_lists`, the loop's invariant: i lists have passed and their rows are noted (`RowsNoted`), and
 -- the work slice has its length; the measure is how many lists are left.
 -- Assumes nothing.
 use mathlib.Core.Path.{◌≡◌}

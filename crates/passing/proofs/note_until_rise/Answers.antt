@@ -1,9 +1,8 @@
--- `passing::note_until_rise` meets its contract. The loop's invariant: no score of i lists rises, their items are noted (`SweptTo`), and
--- the places have their length; the measure is how many lists are left.
+-- `passing::note_until_rise` meets its contract: a list more is swept (`rows_go_on`), rises (`row_rises`), or was the last (`rows_end`).
 -- Assumes nothing.
 use mathlib.Core.Path.{◌≡◌, refl, sym, ap, ◌∙◌}
 use mathlib.Core.Bool.{true≢false, false≢true}
-use Prim.Native.Nat.{ℕ, ◌+◌, ◌-◌, ◌*◌, ◌≤◌, ◌<◌}
+use Prim.Native.Nat.{◌+◌, ◌-◌, ◌*◌, ◌≤◌}
 use native.Mathlib.Omega.{arith}
 use lib.ListN.{length, length-replicate}
 use borrow.Rule.Slice.PartMut.{same_len_mid}
@@ -12,41 +11,27 @@ use Rattle.entries.specs.Clauses.{poses}
 use Rattle.passing.proofs.Rows.{own_length, rows_start, rows_go_on, rows_end, row_small, row_clear, row_rises}
 use Rattle.passing.proofs.note_until_rise.Goals as goal
 
-record Here (i n items scores places : ℕ) : Type 0 where
-  list_small : i < 8
-  row_in_items : i * n + n ≤ items
-  row_in_scores : i * n + n ≤ scores
-  row_in_places : i * n + n ≤ places
-
 pub loop-i-init : goal.loop-i-init
 loop-i-init c = (refl, rows_start (poses c.args.m c.args.n c.args.items.now c.args.scores.now) c.requires.empty)
 
 pub returns-then-rises : goal.returns-then-rises
 returns-then-rises c =
     let some = sym c.rises.ensures ∙ c.if-rises.true in
+    let s = poses c.args.m c.args.n c.args.items.now c.args.scores.now in
     record {
       rising = λ _.
-          row_rises (poses c.args.m c.args.n c.args.items.now c.args.scores.now) c.requires c.loop-i.invariant.1 c.loop-i-test.true some;
+          row_rises s c.requires c.loop-i.invariant.1 c.loop-i-test.true some;
       swept = λ told. absurd (true≢false told);
     }
 
 pub note_items-requires : goal.note_items-requires
 note_items-requires c =
-    let here : Here c.loop-i.i c.args.n (length c.args.items.now) (length c.args.scores.now)
-    (length c.loop-i.places) =
     let room = table_room c.loop-i.i c.args.m c.args.n c.loop-i-test.true in
-    let within = c.requires.within in
-    let lent = ap length c.requires.empty ∙ length-replicate (c.args.m * c.args.n) 0 in
-    record {
-      list_small = omega (arith, within.m_most, c.loop-i-test.true);
-      row_in_items = omega (arith, within.items_long);
-      row_in_scores = omega (arith, within.scores_long);
-      row_in_places = omega (arith, lent, c.loop-i.invariant.0);
-    } in
+    let row_in_items : c.loop-i.i * c.args.n + c.args.n ≤ length c.args.items.now = omega (arith, c.requires.within.items_long) in
     let s = poses c.args.m c.args.n c.args.items.now c.args.scores.now in
     let zeros = row_clear s c.requires c.loop-i.invariant.1 c.loop-i-test.true in
     let long = ap length zeros ∙ length-replicate c.args.n 0 in
-    let short = own_length c.loop-i.i c.args.n c.args.items.now here.row_in_items in
+    let short = own_length c.loop-i.i c.args.n c.args.items.now row_in_items in
     record {
       few = omega (arith, short, c.requires.within.n_most);
       placed = λ q l. rw long (row_small s c.requires c.loop-i.invariant.1 c.loop-i-test.true q (rw short at l));
@@ -55,24 +40,15 @@ note_items-requires c =
 
 pub loop-i-preserved : goal.loop-i-preserved
 loop-i-preserved c =
-    let here : Here c.loop-i.i c.args.n (length c.args.items.now) (length c.args.scores.now)
-    (length c.loop-i.places) =
     let room = table_room c.loop-i.i c.args.m c.args.n c.loop-i-test.true in
-    let within = c.requires.within in
-    let lent = ap length c.requires.empty ∙ length-replicate (c.args.m * c.args.n) 0 in
-    record {
-      list_small = omega (arith, within.m_most, c.loop-i-test.true);
-      row_in_items = omega (arith, within.items_long);
-      row_in_scores = omega (arith, within.scores_long);
-      row_in_places = omega (arith, lent, c.loop-i.invariant.0);
-    } in
+    let row_in_items : c.loop-i.i * c.args.n + c.args.n ≤ length c.args.items.now = omega (arith, c.requires.within.items_long) in
     let s = poses c.args.m c.args.n c.args.items.now c.args.scores.now in
     let from = c.loop-i.i * c.args.n in
     let after = c.note_items.new.places in
     let none_rises = sym c.rises.ensures ∙ c.if-rises.false in
     let zeros = row_clear s c.requires c.loop-i.invariant.1 c.loop-i-test.true in
     let long = ap length zeros ∙ length-replicate c.args.n 0 in
-    let short = own_length c.loop-i.i c.args.n c.args.items.now here.row_in_items in
+    let short = own_length c.loop-i.i c.args.n c.args.items.now row_in_items in
     let notes = rw (short, long) at c.note_items.ensures in (
       same_len_mid from (from + c.args.n - from) c.loop-i.places after c.note_items.auto.places ∙ c.loop-i.invariant.0,
       rows_go_on s c.requires c.loop-i.invariant.1 c.loop-i-test.true after none_rises notes,

@@ -1,4 +1,4 @@
--- `passing::note_until_rise` meets its contract. The loop's invariant: no score of i lists rises, their items are noted (`SweptTo`), and
+-- `passing::note_until_rise`, the loop's invariant: no score of i lists rises, their items are noted (`SweptTo`), and
 -- the places have their length; the measure is how many lists are left.
 -- Assumes nothing.
 use mathlib.Core.Path.{◌≡◌}

@@ -1,4 +1,4 @@
--- `sweeps::greatest` meets its contract. The loop's invariant: the greatest of the numbers before q; the measure is how many are left.
+-- `sweeps::greatest` meets its contract: a number more is the greatest or is not (`greatest_next`).
 -- Assumes nothing.
 use native.Mathlib.Omega.{arith}
 use Rattle.sweeps.proofs.Most.{greatest_start, greatest_next}

@@ -1,4 +1,4 @@
--- `sweeps::greatest` meets its contract. The loop's invariant: the greatest of the numbers before q; the measure is how many are left.
+-- `sweeps::greatest`, the loop's invariant: the greatest of the numbers before q; the measure is how many are left.
 -- Assumes nothing.
 use Prim.Native.Nat.{◌-◌, ◌≤◌}
 use lib.ListN.{length}

@@ -1,4 +1,4 @@
--- `sweeps::has_zero` meets its contract. The loop's invariant: what is found among the numbers before q; the measure is how many are left.
+-- `sweeps::has_zero` meets its contract: a number more is 0 or is not (`found_next`).
 -- Assumes nothing.
 use mathlib.Core.Path.{refl}
 use mathlib.Core.Bool.{Bool}

@@ -1,4 +1,4 @@
--- `sweeps::has_zero` meets its contract. The loop's invariant: what is found among the numbers before q; the measure is how many are left.
+-- `sweeps::has_zero`, the loop's invariant: what is found among the numbers before q; the measure is how many are left.
 -- Assumes nothing.
 use mathlib.Core.Path.{◌≡◌}
 use Prim.Native.Nat.{◌-◌, ◌≤◌}

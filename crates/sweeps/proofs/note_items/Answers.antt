@@ -1,5 +1,4 @@
--- `sweeps::note_items` meets its contract. The loop's invariant: the items before q are noted, and the places are as many as were lent;
--- the measure is how many items are left.
+-- `sweeps::note_items` meets its contract: an item more is noted at its place (`noted_store`).
 -- Assumes nothing.
 use mathlib.Core.Path.{refl, sym, ap, ◌∙◌}
 use Prim.Native.Nat.{ℕ, ◌<◌}

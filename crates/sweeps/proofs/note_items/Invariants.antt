@@ -1,4 +1,4 @@
--- `sweeps::note_items` meets its contract. The loop's invariant: the items before q are noted, and the places are as many as were lent;
+-- `sweeps::note_items`, the loop's invariant: the items before q are noted, and the places are as many as were lent;
 -- the measure is how many items are left.
 -- Assumes nothing.
 use mathlib.Core.Path.{◌≡◌}

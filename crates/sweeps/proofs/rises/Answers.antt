@@ -1,5 +1,4 @@
--- `sweeps::rises` meets its contract. The loop's invariant: what is found among the pairs of neighbours before q; the measure is how many
--- are left.
+-- `sweeps::rises` meets its contract: a pair of neighbours more rises (`found_here`) or does not (`found_before`).
 -- Assumes nothing.
 use mathlib.Core.Path.{◌≡◌, refl}
 use mathlib.Core.Bool.{Bool}

@@ -1,4 +1,4 @@
--- `sweeps::rises` meets its contract. The loop's invariant: what is found among the pairs of neighbours before q; the measure is how many
+-- `sweeps::rises`, the loop's invariant: what is found among the pairs of neighbours before q; the measure is how many
 -- are left.
 -- Assumes nothing.
 use mathlib.Core.Path.{◌≡◌}

@@ -1,0 +1,13 @@
+-- `noting::shortlist::keep` meets its contract: an item whose seat is past the last place is left out, any other is slid in.
+-- Assumes nothing.
+use Rattle.meeting.specs.Keeping.{stays_out, slid_in}
+use Rattle.noting.proofs.shortlist.keep.Goals as goal
+
+pub returns-then-at-k : goal.returns-then-at-k
+returns-then-at-k c = stays_out c.requires c.seat-at.ensures c.if-at-k.true
+
+pub returns : goal.returns
+returns c =
+    let last_is = c.last_place-last.ensures in
+    let slid = c.slide_places.ensures in
+    slid_in c.requires c.seat-at.ensures c.if-at-k.false last_is slid.0 slid.1 slid.1
