@@ -41,12 +41,12 @@ use Rattle.bounded.proofs.Lent.{TopsIn, tops_gone}
 
 -- ---- equal lows, highs and met items
 module _ (n k : ℕ) (low high low' high' : ℕ → ℕ) (met met' : ℕ → Bool)
-    (same_low : (d : ℕ) → d < n → low d ≡ low' d) (same_high : (d : ℕ) → d < n → high d ≡ high' d) (same_Met : (d : ℕ) → d < n → met d ≡ met' d) where
+    (same_low : (d : ℕ) → d < n → low d ≡ low' d) (same_high : (d : ℕ) → d < n → high d ≡ high' d) (same_met : (d : ℕ) → d < n → met d ≡ met' d) where
   pub held_same : held n k low high met ≡ held n k low' high' met'
   unfolding held ahead
   held_same =
       ap (take k)
-      (ranked_same (ahead low high) (ahead low' high') met met' n same_Met
+      (ranked_same (ahead low high) (ahead low' high') met met' n same_met
       (λ d e hd he _ _. rw (same_low d hd, same_low e he, same_high d hd, same_high e he)))
 
   -- the last of them is an item
