@@ -1,7 +1,5 @@
 -- `running::by_score` meets its contract: a run, with the highs taken from the lows.
 -- Assumes nothing.
-use native.Mathlib.Omega.{arith}
-use borrow.Author.Rules.{rules}
 use Rattle.running.proofs.Runs.{scored_runs}
 use Rattle.running.proofs.by_score.Goals as goal
 

@@ -20,5 +20,5 @@ only_sorted-requires c =
 pub returns : goal.returns
 returns c =
     let room = c.requires.1 in
-    bounded_runs _ _ _ _ _ _ _ _ _ _ _ _ _ (omega (arith, c.if-which-lt-NRA.false)) c.requires.0.lists_valid room.k_least room.k_most
+    bounded_runs _ _ _ _ _ _ _ _ _ _ _ _ _ (search rules) c.requires.0.lists_valid room.k_least room.k_most
     c.run_nra-rows.ensures c.only_sorted.ensures

@@ -1,0 +1,3 @@
+-- Laws that the proofs of this crate cite.
+--     Owing          from a search into columns to what it owes in rows
+mod Owing
