@@ -4,7 +4,7 @@
 --     returned_ta .. returned_nra        the four
 --     delivered          what is claimed of the four together
 -- Assumes nothing.
-use Rattle.std.specs.Prelude.{◌≡◌, true, false, List, map, ℕ, ◌-◌, ◌≤◌, ◌<◌, length, get_or, drop}
+use Rattle.std.specs.Prelude.{◌≡◌, true, false, List, map, ℕ, ◌≤◌, ◌<◌, length, get_or, drop}
 use Rattle.std.proofs.Common.{sym, subst, ◌∙◌, le_refl, arith}
 use Rattle.std.proofs.Math.Path.{ap}
 use Rattle.std.proofs.lemmas.List.{length-map}

@@ -1,3 +1,0 @@
--- Laws that the proofs of this crate cite.
---     Telling        from what a search promises to what is told of it
-mod Telling
