@@ -1,5 +1,5 @@
 -- The sets of document 01's "Sets to try" and of the papers, as a search is lent them, and how a table of answers is tested.
---     _at_, lending          an entry, "0 at 10"; what a search is lent, with the room that it asks for
+--     ◌at◌, lending          an entry, "0 at 10"; what a search is lent, with the room that it asks for
 --     case_a .. example1      the cases, in the documents' numbers
 --     Row, asked             a search, what it is lent, and the answer that it must give
 --     gives, refuses         an answer; `exact`, `between`: a place of the shortlist

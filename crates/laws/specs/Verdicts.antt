@@ -1,4 +1,4 @@
--- Laws of tests that are made one after the other: `_then_`, `_when_`, `first_refusal`.
+-- Laws of tests that are made one after the other: `◌then◌`, `◌when◌`, `first_refusal`.
 --     accepted≢refused           a verdict is not both
 --     when_passes                a number that is not given: its test is false
 --     then_first, then_second    both of two tests passed

@@ -1,6 +1,6 @@
 -- List by list: what is known once i lists have passed, and one list more.
 --     RowsNoted          after i lists: no refusal so far, and their rows of the work slice are noted
---     rows_start, rows_go_on, rows-end       with no list; past one more; at the last
+--     rows_start, rows_go_on         with no list; past one more
 --     list_accepted      an answer of number 0 accepts the list
 --     rows_stop, rows_done       what `walk_lists` promises, from the refusal of a list and from all lists passed
 -- Assumes nothing.

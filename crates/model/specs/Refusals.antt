@@ -1,6 +1,6 @@
 -- The refusal numbers 1 to 9 and their order (document 01, "Refusal numbers and their order").
 --     Verdict                    accepted, or refused with number, list and position
---     _when_, _then_             a number "given exactly when"; one test after the other: "The first met is the answer"
+--     ◌when◌, ◌then◌             a number "given exactly when"; one test after the other: "The first met is the answer"
 --     Lent                       everything that a search is lent, as it is at entry
 --     pair, weight_of             a big-endian pair of bytes; a list's weight
 --     wrong_size .. no_room        the tests 1 to 6, a name each

@@ -124,5 +124,5 @@ module _ (s : Poses) where
         let d = where_it_is.1 in
         let empty : get_or (table notes s.n s.m) (i * s.n + d) 0 ≡ 0 =
         rw (← where_it_is.4, ← swept.notes) (eqb-true (get_or after q 0) 0 there.2) in
-        let Noted-here = table_at notes s.n s.m i d 0 where_it_is.2 where_it_is.3 in
-        omega (arith, empty, Noted-here, noted_place s i (each_passes i where_it_is.2) d where_it_is.3)
+        let noted_here = table_at notes s.n s.m i d 0 where_it_is.2 where_it_is.3 in
+        omega (arith, empty, noted_here, noted_place s i (each_passes i where_it_is.2) d where_it_is.3)
