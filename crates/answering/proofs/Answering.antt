@@ -10,8 +10,7 @@ use mathlib.Core.List.{List}
 use Prim.Native.Nat.{ℕ, ◌≤◌}
 use lib.ListN.{get_or}
 use Rattle.model.specs.Given.{Poses, Query}
-use Rattle.model.specs.Accesses.{tally}
-use Rattle.model.specs.Searches.{Search, kept, rows}
+use Rattle.model.specs.Searches.{Search, kept}
 use Rattle.model.specs.Refusals.{Verdict, accepted, refused, Lent, poses_of, query_of, search_shape, search_verdict}
 use Rattle.model.specs.Answers.{Told, told, found, found_after, search_of, answering, answer, written, work_after, slices, slices_with}
 use Rattle.laws.specs.Verdicts.{by_verdict, told_zero}

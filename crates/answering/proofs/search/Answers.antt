@@ -2,7 +2,6 @@
 -- Assumes nothing.
 use mathlib.Core.Path.{refl}
 use native.Mathlib.Omega.{arith}
-use borrow.Author.Rules.{rules}
 use Rattle.model.specs.Refusals.{poses_of}
 use Rattle.admission.specs.Clauses.{lent_with}
 use Rattle.admission.specs.Passing.{passed}
