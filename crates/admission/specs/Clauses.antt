@@ -3,11 +3,12 @@
 --     shape_of                the tests 1 to 6, by the slices' lengths; `shape_is`: they are the page's
 --     Admitted               what the tests of a search answer, and the work slice afterwards
 -- Assumes nothing.
-use Rattle.std.specs.Prelude.{◌≡◌, refl, ◌||◌, List, ℕ, ◌*◌, ltb, length}
+use Rattle.std.specs.Prelude.{◌≡◌, refl, ◌||◌, List, ℕ, ◌*◌, ltb, length, Result, OnOk}
 use Rattle.model.specs.Refusals.{Verdict, accepted, ◌when◌, ◌then◌, Lent, poses_of, wrong_size, wrong_k, wrong_rule, wrong_weights, short, no_lists, no_room, search_shape, search_verdict}
 use Rattle.model.specs.Answers.{told, work_after}
-use Rattle.entries.specs.declared.Checked.{Checked}
-use Rattle.entries.specs.Clauses.{poses, value_of}
+use Rattle.poses.specs.declared.refusals.Refusal.{Refusal}
+use Rattle.poses.specs.Refusals.{value_of}
+use Rattle.entries.specs.Clauses.{poses}
 use Rattle.lists.specs.Promises.{Accepted}
 use Rattle.testing.specs.Clauses.{no_room_of}
 
@@ -48,12 +49,11 @@ shape_is l = refl
 
 -- Whatever slices of these lengths are lent: the answer to all tests, and the work slice afterwards; and where all are passed,
 -- the lists are valid and the work slice holds the positions
-pub record Admitted (m n rule k : ℕ) (weights items scores : List ℕ) (picks lows highs tally : ℕ) (work : List ℕ) (r : Checked) (after : List ℕ) :
+pub record Admitted (m n rule k : ℕ) (weights items scores : List ℕ) (picks lows highs tally : ℕ) (work : List ℕ) (r : Result (Unit {0}) Refusal) (after : List ℕ) :
     Type 0 where
   pub answers : (a b c t : List ℕ) → length a ≡ picks → length b ≡ lows → length c ≡ highs → length t ≡ tally
       → value_of r ≡ told (search_verdict (lent_with m n rule k weights items scores a b c t work))
   pub leaves : (a b c t : List ℕ) → length a ≡ picks → length b ≡ lows → length c ≡ highs → length t ≡ tally
       → after ≡ work_after (search_shape (lent_with m n rule k weights items scores a b c t work)) (poses m n items scores) work
-  pub passes : r.number ≡ 0 → Accepted (poses m n items scores) after
-  pub shaped : r.number ≡ 0
-      → shape_of m n rule k weights (length items) (length scores) picks lows highs tally (length work) ≡ accepted
+  pub passes : OnOk r (Accepted (poses m n items scores) after)
+  pub shaped : OnOk r (shape_of m n rule k weights (length items) (length scores) picks lows highs tally (length work) ≡ accepted)

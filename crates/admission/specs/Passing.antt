@@ -1,10 +1,10 @@
 -- What a search may rest on once its tests are passed.
 --     TestsPassed, passed     the lists are valid and their places are in the work slice, k and the weights are right, the slices have room
 -- Assumes nothing.
-use Rattle.std.specs.Prelude.{◌≡◌, List, ℕ, ◌*◌, ◌≤◌, length}
-use Rattle.model.specs.Refusals.{accepted, weight_of}
+use Rattle.std.specs.Prelude.{◌≡◌, List, ℕ, ◌*◌, ◌≤◌, length, Ok}
+use borrow.Author.Tests.{ltb-false}
+use Rattle.model.specs.Refusals.{accepted, weight_of, wrong_rule}
 use Rattle.laws.specs.Accepted.{Valid, Placed}
-use Rattle.entries.specs.declared.Checked.{Checked}
 use Rattle.entries.specs.Clauses.{poses}
 use Rattle.admission.specs.Clauses.{shape_of, Admitted}
 use Rattle.admission.specs.Shapes.{weights_long, weight_small, k_passes, shape_told}
@@ -15,6 +15,7 @@ pub record TestsPassed (m n rule k : ℕ) (weights items scores : List ℕ) (pic
   pub work_placed : Placed (poses m n items scores) after
   pub k_least : 1 ≤ k
   pub k_most : k ≤ n
+  pub rule_small : rule ≤ 2
   pub weights_length : length weights ≡ 2 * m
   pub weights_small : (i : ℕ) → weight_of weights i ≤ 1000
   pub picks_long : k ≤ picks
@@ -23,18 +24,20 @@ pub record TestsPassed (m n rule k : ℕ) (weights items scores : List ℕ) (pic
   pub tally_long : m * n ≤ tally
   pub shaped : shape_of m n rule k weights (length items) (length scores) picks lows highs tally (length work) ≡ accepted
 
-pub passed : {m n rule k : ℕ} {weights items scores : List ℕ} {picks lows highs tally : ℕ} {work : List ℕ} {r : Checked} {after : List ℕ}
-    → Admitted m n rule k weights items scores picks lows highs tally work r after → r.number ≡ 0
+pub passed : {m n rule k : ℕ} {weights items scores : List ℕ} {picks lows highs tally : ℕ} {work after : List ℕ} {u : Unit {0}}
+    → Admitted m n rule k weights items scores picks lows highs tally work (Ok u) after
     → TestsPassed m n rule k weights items scores picks lows highs tally work after
-passed {m} {n} {rule} {k} {weights} {items} {scores} {picks} {lows} {highs} {tally} {work} a none =
-    let all = a.shaped none in
+unfolding wrong_rule
+passed {m} {n} {rule} {k} {weights} {items} {scores} {picks} {lows} {highs} {tally} {work} a =
+    let all = a.shaped in
     let h = shape_told m n rule k weights (length items) (length scores) picks lows highs tally (length work) all in
     let ks = k_passes k n h.k_right in
     record {
-      lists_valid = (a.passes none).lists_valid;
-      work_placed = (a.passes none).work_placed;
+      lists_valid = a.passes.lists_valid;
+      work_placed = a.passes.work_placed;
       k_least = ks.0;
       k_most = ks.1;
+      rule_small = ltb-false 2 rule h.rule_right;
       weights_length = weights_long m weights h.weights_right;
       weights_small = weight_small m weights h.weights_right;
       picks_long = h.picks_long;

@@ -1,95 +1,54 @@
-// The tests of a search before it runs: its own 1 to 6, in that order, then the list check.
+// The tests of a search before it runs: its own, in their order, then the list check.
 #![tactic(auto)]
 
-ghost use Rattle.std.specs.Prelude.{◌≡◌};
+ghost use Rattle.std.specs.Prelude.{◌≡◌, length, OnOk};
+ghost use Rattle.model.specs.Refusals.{accepted};
 ghost use Rattle.model.specs.Answers.{told};
+ghost use Rattle.poses.specs.Refusals.{value_of};
 ghost use Rattle.admission.specs.Clauses.{shape_of, Admitted};
 
-use lists::Checked;
-use testing::{no_room, wrong_k, wrong_weights};
+use poses::refusals::Refusal;
+use poses::{PoseSet, Query};
+use testing::{Lengths, no_room, wrong_k, wrong_weights};
 
-// Tests 1 to 6, in that order: the first number met, or 0. The slices count by their lengths.
+// Tests 1 to 6, in that order. The slices count by their lengths.
 #[tactic(auto, using(laws::specs::Accepted::sized, laws::specs::Accepted::size_fits), unfolding(crate::specs::Clauses::shape_of, model::specs::Refusals::wrong_rule))]
-fn shape(
-    m: usize,
-    n: usize,
-    rule: u8,
-    k: usize,
-    weights: &[u8],
-    items: usize,
-    scores: usize,
-    picks: usize,
-    lows: usize,
-    highs: usize,
-    tally: usize,
-    work: usize,
-) -> u32
-    ensures { result ≡ (told (shape_of m n rule k weights.now items scores picks lows highs tally
-        work)).number }
+fn shape(set: PoseSet, query: Query, lengths: Lengths, work: usize) -> Result<(), Refusal>
+    ensures tells { value_of result ≡ told (shape_of set.entry.lists set.entry.poses query.entry.rule
+        query.entry.count query.entry.weights.now (length set.entry.items.now) (length set.entry.scores.now)
+        lengths.picks lengths.lows lengths.highs lengths.tally work) }
+    ensures passes { OnOk result (shape_of set.entry.lists set.entry.poses query.entry.rule
+        query.entry.count query.entry.weights.now (length set.entry.items.now) (length set.entry.scores.now)
+        lengths.picks lengths.lows lengths.highs lengths.tally work ≡ accepted) }
 {
-    if lists::wrong_size(m, n) {
-        return 1;
+    if lists::wrong_size(set.lists, set.poses) {
+        return Err(Refusal::WrongSize);
     }
-    if wrong_k(k, n) {
-        return 2;
+    if wrong_k(query.count, set.poses) {
+        return Err(Refusal::WrongCount);
     }
-    if 2 < rule {
-        return 3;
+    if 2 < query.rule {
+        return Err(Refusal::WrongRule);
     }
-    if wrong_weights(m, weights) {
-        return 4;
+    if wrong_weights(set.lists, query.weights) {
+        return Err(Refusal::WrongWeights);
     }
-    let size = m * n;
-    if items < size {
-        return 5;
+    let size = set.lists * set.poses;
+    if set.items.len() < size || set.scores.len() < size {
+        return Err(Refusal::ShortLists);
     }
-    if scores < size {
-        return 5;
+    if no_room(query.count, size, lengths, work) {
+        return Err(Refusal::ShortRoom);
     }
-    if no_room(k, size, picks, lows, highs, tally, work) {
-        return 6;
-    }
-    0
+    Ok(())
 }
 
 // All tests of a search: its own, then the list check, which fills the work slice.
-pub fn admit(
-    m: usize,
-    n: usize,
-    rule: u8,
-    k: usize,
-    weights: &[u8],
-    items: &[u16],
-    scores: &[u16],
-    picks: usize,
-    lows: usize,
-    highs: usize,
-    tally: usize,
-    work: &mut [u16],
-) -> Checked
-    ensures { Admitted m n rule k weights.now items.now scores.now
-        picks lows highs tally work.old result work.new }
+pub fn admit(set: PoseSet, query: Query, lengths: Lengths, work: &mut [u16]) -> Result<(), Refusal>
+    ensures { Admitted set.entry.lists set.entry.poses query.entry.rule query.entry.count
+        query.entry.weights.now set.entry.items.now set.entry.scores.now lengths.picks lengths.lows
+        lengths.highs lengths.tally work.old result work.new }
 {
-    let number = shape(
-        m,
-        n,
-        rule,
-        k,
-        weights,
-        items.len(),
-        scores.len(),
-        picks,
-        lows,
-        highs,
-        tally,
-        work.len(),
-    );
-    if number != 0 {
-        return Checked {
-            number,
-            list: 0,
-            position: 0,
-        };
-    }
-    lists::check_lists(m, n, items, scores, work)
+    shape(set, query, lengths, work.len())?;
+    lists::check_lists(set, work)
 }

@@ -1,7 +1,9 @@
 -- What a search promises of its answer and of the five slices that it may write.
 --     Searched       what each of the four searches promises, at every input
+--     KeepsLengths   a room's slices are as long as before
 -- Assumes nothing.
-use Rattle.std.specs.Prelude.{◌≡◌, List, ℕ}
+use Rattle.std.specs.Prelude.{◌≡◌, List, ℕ, length}
+use Rattle.poses.specs.declared.Room.{Room}
 use Rattle.model.specs.Given.{Poses, Query}
 use Rattle.model.specs.Searches.{Search}
 use Rattle.model.specs.Refusals.{Lent}
@@ -22,3 +24,11 @@ pub record Searched (r : Poses → Query → Search) (l : Lent) (a : Answer) (pi
   pub highs_are : highs ≡ (slices r l).highs
   pub tally_is : tally ≡ (slices r l).tally
   pub work_is : work ≡ (slices r l).work
+
+-- A room's slices are as long as before
+pub record KeepsLengths (a b : Room) : Type 0 where
+  pub picks_long : length b.picks.now ≡ length a.picks.now
+  pub lows_long : length b.lows.now ≡ length a.lows.now
+  pub highs_long : length b.highs.now ≡ length a.highs.now
+  pub tally_long : length b.tally.now ≡ length a.tally.now
+  pub work_long : length b.work.now ≡ length a.work.now

@@ -1,6 +1,7 @@
 -- What the four searches promise to whoever calls them, and nothing of their inside.
 --     answer_one_to_one      an answer is its seven numbers
---     search_settles         any two results that meet a search's contract coincide, all five slices included
+--     search_settles         any two answers that meet a search's contract coincide, all five slices included
+--     results_settle         and so do any two results, whose answers they are
 --     accepted_is_zero       the number is 0 exactly where the model accepts
 --     Finds, accepted_finds  what a call that is accepted tells and leaves in the slices of shortlist and tally
 --     accepted_call          and then k is one of 1 to n and the lists are valid
@@ -14,7 +15,11 @@ use Rattle.model.specs.Accesses.{sorted, direct, random, made, tally}
 use Rattle.model.specs.Refusals.{Verdict, accepted, refused, Lent, poses_of, query_of, search_verdict}
 use Rattle.model.specs.Answers.{Found, found, found_after, told, search_of, answer, answering, written, slices, slices_with}
 use Rattle.laws.specs.Verdicts.{told_zero}
+use Rattle.std.specs.Prelude.{Result}
+use Rattle.poses.specs.declared.refusals.Refusal.{Refusal}
+use Rattle.meeting.specs.declared.Found.{Found as FoundValue}
 use Rattle.answers.specs.declared.Answer.{Answer}
+use Rattle.answers.specs.Clauses.{answer_of, answer_once}
 use Rattle.meeting.specs.Clauses.{Ran}
 use Rattle.answering.specs.Answered.{Searched}
 use Rattle.admission.specs.Shapes.{numbered_search, Accepts, accepts}
@@ -73,6 +78,13 @@ search_settles {a = a} {b = b} x y =
       tally_same = x.tally_is ∙ sym y.tally_is;
       work_same = x.work_is ∙ sym y.work_is;
     }
+
+-- and so do any two results, whose answers they are
+pub results_settle : {r : Poses → Query → Search} {l : Lent} {x y : Result FoundValue Refusal}
+    {picks lows highs tally work picks' lows' highs' tally' work' : List ℕ}
+    → Searched r l (answer_of x) picks lows highs tally work → Searched r l (answer_of y) picks' lows' highs' tally' work'
+    → (x ≡ y) × Same (answer_of x) (answer_of y) picks lows highs tally work picks' lows' highs' tally' work'
+results_settle {x = x} {y = y} p q = let same = search_settles p q in (answer_once x y same.answers, same)
 
 -- the number is 0 exactly where the model accepts
 pub accepted_is_zero : {r : Poses → Query → Search} {l : Lent} {a : Answer} {picks lows highs tally work : List ℕ}

@@ -1,15 +1,15 @@
-// The answer of a search: from a refusal, or from what its run has done.
+// The answer of a search in numbers, as C and the previewer's line tell it.
 #![tactic(auto)]
 
 ghost use Rattle.std.specs.Prelude.{◌≡◌};
-ghost use Rattle.answers.specs.Clauses.{all_told, RefusedBy, Tells};
+ghost use Rattle.answers.specs.Clauses.{all_told, answer_of};
 
-use entries::Checked;
-use meeting::{Direct, Done, Random, Sorted};
+use meeting::{Direct, Found, Random, Sorted};
+use poses::refusals::Refusal;
 
-// What a search gives back beside the slices: 0 or the number of a refusal with its list and position, the rows
-// or rounds, and the accesses by kind.
-#[derive(Clone, Copy)]
+/// What a search gives back beside what it writes, in numbers: 0 or the number of a refusal with its list and
+/// position, the rows or rounds, and the accesses by kind. All numbers of a refusal but its own three are 0.
+#[derive(Clone, Copy, Debug, PartialEq, Eq)]
 pub struct Answer {
     pub number: u32,
     pub list: u32,
@@ -20,39 +20,38 @@ pub struct Answer {
     pub random: Random,
 }
 
-// All accesses of a search, of whatever kind: the one place where the kinds are joined.
-pub fn total(a: Answer) -> u64
-    ensures { result ≡ all_told a }
-{
-    (a.sorted.0 as u64) + (a.direct.0 as u64) + (a.random.0 as u64)
-}
-
-// All numbers but the refusal's own are 0.
-pub fn refused(c: Checked) -> Answer
-    ensures { RefusedBy c result }
-{
-    Answer {
-        number: c.number,
-        list: c.list,
-        position: c.position,
-        rows: 0,
-        sorted: Sorted(0),
-        direct: Direct(0),
-        random: Random(0),
+impl Answer {
+    /// All accesses, of whatever kind; none of a refusal.
+    pub fn total(self) -> u64
+        ensures { result ≡ all_told self }
+    {
+        u64::from(self.sorted.0) + u64::from(self.direct.0) + u64::from(self.random.0)
     }
 }
 
-// What a search that is not refused has done.
-pub fn found(d: Done) -> Answer
-    ensures { Tells d result }
-{
-    Answer {
-        number: 0,
-        list: 0,
-        position: 0,
-        rows: d.rows,
-        sorted: Sorted(d.sorted.0),
-        direct: Direct(d.direct.0),
-        random: Random(d.random.0),
+impl From<Result<Found, Refusal>> for Answer {
+    ghost from_gives = { λ found answer. answer ≡ answer_of found };
+
+    fn from(found: Result<Found, Refusal>) -> Answer {
+        match found {
+            Ok(found) => Answer {
+                number: 0,
+                list: 0,
+                position: 0,
+                rows: found.rows,
+                sorted: found.sorted,
+                direct: found.direct,
+                random: found.random,
+            },
+            Err(refusal) => Answer {
+                number: refusal.number(),
+                list: refusal.list(),
+                position: refusal.position(),
+                rows: 0,
+                sorted: Sorted(0),
+                direct: Direct(0),
+                random: Random(0),
+            },
+        }
     }
 }

@@ -1,10 +1,11 @@
 -- The records that the contracts of `blocking` cite.
 --     Kth, kth_of    the k-th greatest mark, as a bar; it is the last of the k greatest
 --     InTheWay       one of the items met that stands in the way, or none
---     Obstructed     what keeps NRA from stopping, or n
+--     Stuck, Obstructed      NRA goes on; what keeps it from stopping, where something does
 -- Assumes nothing.
-use Rattle.std.specs.Prelude.{◌≡◌, true, false, List, ℕ, ◌-◌, ◌≤◌, ◌<◌, get_or}
-use Rattle.halting.specs.Clauses.{View, halts_of, reach_of, Barred, passes_of}
+use Rattle.std.specs.Prelude.{◌≡◌, true, false, List, ℕ, ◌-◌, ◌≤◌, ◌<◌, length, get_or, Option, Some, None}
+use Rattle.meeting.specs.Clauses.{View}
+use Rattle.halting.specs.Clauses.{halts_of, reach_of, Barred, passes_of}
 use Rattle.raising.specs.Clauses.{Led}
 use Rattle.raising.specs.Floor.{led_bar, led_few}
 
@@ -16,14 +17,18 @@ pub record Kth (n k : ℕ) (marks : List ℕ) (top : ℕ) : Type 0 where
 pub kth_of : {n k : ℕ} {marks tops : List ℕ} → Led n k marks tops → 1 ≤ k → Kth n k marks (get_or tops (k - 1) 0)
 kth_of led some = record { few = led_few led some; barred = led_bar led some }
 
--- The item at r stands in the way, or r is `count`, and then none of those met does
-pub record InTheWay (v : View) (p bar : ℕ) (met : List ℕ) (count r : ℕ) : Type 0 where
-  pub in_the_way : r < count → passes_of v p bar (get_or met r 0) ≡ false
-  pub none_there : count ≤ r → (j : ℕ) → j < count → passes_of v p bar (get_or met j 0) ≡ true
+-- An entry whose item stands in the way, or none does
+abbrev pub InTheWay : View → ℕ → ℕ → List ℕ → Option ℕ → Type 0
+InTheWay v p bar met None = (j : ℕ) → j < length met → passes_of v p bar (get_or met j 0) ≡ true
+InTheWay v p bar met (Some r) = (r < length met) × (passes_of v p bar (get_or met r 0) ≡ false)
 
--- NRA stops after p rows exactly where r is n; else r is within the items met
-pub record Obstructed (v : View) (k p count r : ℕ) : Type 0 where
-  pub most : r ≤ v.n
-  pub within : r < v.n → r ≤ count
-  pub stuck : r < v.n → halts_of v k p ≡ false
-  pub free : v.n ≤ r → halts_of v k p ≡ true
+-- NRA does not stop after p rows, and r is within the `count` items met
+pub record Stuck (v : View) (k p count r : ℕ) : Type 0 where
+  pub small : r < v.n
+  pub within : r ≤ count
+  pub goes_on : halts_of v k p ≡ false
+
+-- NRA stops after p rows exactly where nothing is in the way
+abbrev pub Obstructed : View → ℕ → ℕ → ℕ → Option ℕ → Type 0
+Obstructed v k p count None = halts_of v k p ≡ true
+Obstructed v k p count (Some r) = Stuck v k p count r

@@ -1,5 +1,6 @@
 -- What the code reads off the slices is what the definitions say of NRA's rows.
---     legible, sought            what reading after p rows asks; what the search for the row asks
+--     sound, sought              what reading asks; what the search for the row asks
+--     met_room, rank_asks        what `rank` asks of the marks and the items met
 --     top_least, held_full       the k-th mark is not 0 when NRA stops, so k items are held
 --     low_is, high_is, met_is    an item's low and high, and whether it is met
 --     held_same, halts_same      the first k and the test, of equal lows, highs and met items
@@ -8,12 +9,13 @@
 -- Assumes nothing.
 use mathlib.Core.Path.{◌≡◌, refl, sym, ap, ◌∙◌}
 use mathlib.Core.Bool.{Bool, true, false, cond, ◌&&◌, ◌||◌, or-true, true≢false}
-use mathlib.Core.List.{List, [], ◌∷◌, map}
+use mathlib.Core.List.{List, [], ◌∷◌, ◌++◌, map}
 use Prim.Native.Nat.{ℕ, ◌+◌, ◌-◌, ◌*◌, ◌≤◌, ◌<◌}
 use native.Mathlib.Numerals.{add-one}
 use native.Mathlib.Omega.{arith}
 use lib.Dec.{eqb, leb, ltb}
-use lib.ListN.{length, get_or, take, length-map}
+use lib.ListN.{length, get_or, take, drop, length-map}
+use lib.Seq.{length-take-le}
 use borrow.Author.Tests.{eq-eqb, leb-true, leb-false, le-leb, ltb-true, ltb-false, lt-ltb}
 use Rattle.model.specs.Words.{last_of, table, over}
 use Rattle.model.specs.Given.{Poses, Query, item, score, place, overall}
@@ -25,19 +27,24 @@ use Rattle.laws.specs.Lookups.{once}
 use Rattle.laws.specs.Overall.{joined_same}
 use Rattle.laws.specs.Ranking.{ranked_same}
 use Rattle.laws.specs.Kept.{kept_item}
-use Rattle.entries.specs.Clauses.{poses}
-use Rattle.meeting.specs.Clauses.{query_with, Readable, Room, read_at, unread}
+use Rattle.poses.specs.Rules.{rule_number}
+use Rattle.poses.specs.Sets.{set_of}
+use Rattle.meeting.specs.declared.Reading.{Reading}
+use Rattle.meeting.specs.Clauses.{View, view_of, query_of, bound_of, Readable, Room, read_at, unread}
+use Rattle.meeting.specs.Shortlist.{Spaced}
 use Rattle.bounded.specs.Depth.{tally_deep, read_deep, met_deep}
 use Rattle.halting.specs.Bar.{held, halts, bar_full}
 use Rattle.bounded.specs.Stops.{kept_held, stops_halts, rows_are}
-use Rattle.halting.specs.Clauses.{View, view, bound_of, met_of, halts_of, Legible, mark_of, reach_of}
+use Rattle.halting.specs.Clauses.{met_of, halts_of, Sound, legible, mark_of, Marked, Listed, reach_of}
 use Rattle.halting.specs.Marks.{reach_is, halts_few}
+use Rattle.halting.specs.Gathering.{listed_most, listed_front}
 use Rattle.leading.specs.Clauses.{Leading}
 use Rattle.raising.specs.Floor.{under_floor, led_few}
+use Rattle.blocking.specs.Clauses.{Kth, kth_of}
 use Rattle.ending.specs.Clauses.{Sought, Halted}
 use Rattle.ranking.specs.Clauses.{held_of, HeldIn}
 use Rattle.bounded.specs.Clauses.{Finished}
-use Rattle.bounded.proofs.Lent.{TopsIn, tops_gone}
+use Rattle.bounded.proofs.Lent.{tops_gone}
 
 -- ---- equal lows, highs and met items
 module _ (n k : ℕ) (low high low' high' : ℕ → ℕ) (met met' : ℕ → Bool)
@@ -73,24 +80,43 @@ map_same f g [] h = refl
 map_same f g (e ∷ l) h = rw (h e (rw (eq-eqb e e refl)), map_same f g l (λ d y. h d (rw y (or-true (eqb d e)))))
 
 -- ---- what is read
-module _ (m n rule : ℕ) (weights items scores work : List ℕ) (w : Readable (poses m n items scores) (query_with rule weights) work) where
+module _ (reading : Reading) (w : Readable (set_of reading.set) (query_of reading) reading.places.now) where
+  abbrev m : ℕ
+  m = reading.set.lists
+
+  abbrev n : ℕ
+  n = reading.set.poses
+
+  abbrev rule : ℕ
+  rule = rule_number reading.rule
+
+  abbrev weights : List ℕ
+  weights = reading.weights.now
+
+  abbrev items : List ℕ
+  items = reading.set.items.now
+
+  abbrev scores : List ℕ
+  scores = reading.set.scores.now
+
+  abbrev work : List ℕ
+  work = reading.places.now
+
   abbrev s : Poses
-  s = poses m n items scores
+  s = set_of reading.set
 
   abbrev q : Query
-  q = query_with rule weights
+  q = query_of reading
 
   abbrev v : View
-  v = view m n rule weights scores work
+  v = view_of reading
 
-  pub legible : (p : ℕ) → 1 ≤ p → p ≤ n → Legible v p
-  legible p least most =
+  pub sound : Sound v
+  sound =
       let sizes = w.lists_valid.size in
       record {
         m_most = sizes.m_most;
         n_most = sizes.n_most;
-        row_least = least;
-        row_most = most;
         scores_long = w.lists_valid.scores_long;
         work_long = w.work_placed.places_long;
         place_least = λ i d hi hd. omega (arith, w.work_placed.position_at i d hi hd);
@@ -105,7 +131,6 @@ module _ (m n rule : ℕ) (weights items scores work : List ℕ) (w : Readable (
       let lists = w.lists_valid in
       let at : (i p : ℕ) → 1 ≤ p → i * n + p - 1 ≡ i * n + (p - 1) = λ i p h. omega arith in
       record {
-        legible = legible n lists.size.n_least (omega arith);
         rowed = λ p least most.
             record {
               items_long = lists.items_long;
@@ -132,7 +157,7 @@ module _ (m n rule : ℕ) (weights items scores work : List ℕ) (w : Readable (
       (λ z.
       let none : get_or tops (k - 1) 0 ≡ 0 = omega (arith, leb-false 1 (get_or tops (k - 1) 0) z) in
       let few : reach_of n marks 0 < k = led_few leads.led some none in
-      let read = legible r found.row_least found.row_most in
+      let read = legible sound found.row_least found.row_most in
       let lists = w.lists_valid.size.m_least in
       by_cases (ltb r n)
       (λ y. absurd (true≢false (sym (found.holds (ltb-true r n y)) ∙ halts_few read leads.marked k some few)))
@@ -146,13 +171,32 @@ module _ (m n rule : ℕ) (weights items scores work : List ℕ) (w : Readable (
       rw (leads.marked.marks_are d hd, met_it) (lt-ltb 0 (bound_of v false r d + 1) (omega arith))) in
       absurd (omega (arith, few, all))))
 
+  -- what `rank` asks, of the marks and the items met as they stand in slices of their own
+  module _ {k r count : ℕ} {marks tops met met' : List ℕ} (leads : Leading v r k marks tops met count) (same_met : met' ≡ met) where
+    pub met_room : count ≤ length met'
+    met_room = rw same_met (omega (arith, listed_most leads.gathered.listed, leads.gathered.met_long))
+
+    pub rank_asks : {marks' picks lows highs : List ℕ} → marks' ≡ marks → 1 ≤ k → k ≤ n → Halted v k r → Spaced k picks lows highs
+        → (1 ≤ r) × (r ≤ n) × Marked v r marks' × Kth n k marks' (get_or tops (k - 1) 0) × (1 ≤ get_or tops (k - 1) 0)
+        × Listed n marks' (take count met') (length (take count met')) × Spaced k picks lows highs
+    rank_asks same_marks some most found room =
+        let size : length (take count met') ≡ count = length-take-le count met' met_room in (
+          found.row_least,
+          found.row_most,
+          rw same_marks leads.marked,
+          rw same_marks (kth_of leads.led some),
+          top_least some most found leads,
+          rw (size, same_marks, same_met) (listed_front leads.gathered.listed),
+          room,
+        )
+
   -- so k items are met, and k are held
   pub held_full : {k r count : ℕ} {marks tops met : List ℕ} → 1 ≤ k → k ≤ n → Halted v k r → Leading v r k marks tops met count
       → length (held_of v k r) ≡ k
   unfolding held_of
   held_full {k} {r} some most found leads =
       let least = top_least some most found leads in
-      let read = legible r found.row_least found.row_most in
+      let read = legible sound found.row_least found.row_most in
       bar_full n k (bound_of v false r) (bound_of v true r) (met_of v r) some 0
       (omega (arith, leads.led.counts 0, under_floor leads.led some 0 least, reach_is read leads.marked 0))
 
@@ -202,9 +246,9 @@ module _ (m n rule : ℕ) (weights items scores work : List ℕ) (w : Readable (
         (low_is p) (λ d. high_is p d least) (met_is p) w.lists_valid.size.n_least
         ∙ sym (stops_halts s q k p)
 
-  module _ {k r filled count : ℕ} {marks tops met_items picks₀ lows₀ highs₀ tally₀ highs₁ picks lows highs tally' : List ℕ}
+  module _ {k r filled count : ℕ} {marks tops met_items picks₀ lows₀ highs₀ tally₀ picks lows highs tally' : List ℕ}
       (room : Room s k picks₀ lows₀ highs₀ tally₀) (found : Halted v k r) (leads : Leading v r k marks tops met_items count)
-      (scratch : TopsIn k highs₀ tops highs₁) (at : HeldIn v k r picks₀ lows₀ highs₁ filled picks lows highs)
+      (lent : List ℕ) (lent_size : length lent ≡ k) (at : HeldIn v k r picks₀ lows₀ (lent ++ drop k highs₀) filled picks lows highs)
       (written : tally' ≡ over (table (λ i q. once (ltb q r)) n m) tally₀) where
     holds : r < n → stops s k (NRA s q) r ≡ true
     holds h = sym (stops_is k r found.row_least) ∙ found.holds h
@@ -234,7 +278,7 @@ module _ (m n rule : ℕ) (weights items scores work : List ℕ) (w : Readable (
               picks_are = shown.picks_are ∙ ap (λ (x : List ℕ). over x picks₀) same_list;
               lows_are = shown.lows_are ∙ ap (λ (x : List ℕ). over x lows₀) (bounds_are (bound_of v false r) (low_nra s q r) (low_is r));
               highs_are = shown.highs_are
-                  ∙ tops_gone scratch (map (bound_of v true r) (held_of v k r))
+                  ∙ tops_gone lent highs₀ (map (bound_of v true r) (held_of v k r)) lent_size
                   (length-map (held_of v k r) (bound_of v true r) ∙ held_full room.k_least room.k_most found leads)
                   ∙ ap (λ (x : List ℕ). over x highs₀) (bounds_are (bound_of v true r) (high_nra s q r) (λ d. high_is r d found.row_least));
             };

@@ -1,6 +1,6 @@
 // The library under C names. A slice is a pointer and then its number of elements, an array a
-// pointer. Each function is thin over a proved one and tells the same numbers: what that one answers
-// stands in the array that C lends.
+// pointer: C lends no structs of slices, so each function takes them one by one. It is thin over a proved
+// one and tells the same numbers: what that one answers stands in the array that C lends.
 #![tactic(auto)]
 
 ghost use Rattle.model.specs.Searches.{TA, BPA, BPA2, NRA};
@@ -9,6 +9,8 @@ ghost use Rattle.admission.specs.Clauses.{lent_with};
 ghost use Rattle.telling.specs.Told.{SearchTold};
 ghost use Rattle.reporting.specs.Told.{CheckTold, QueryTold, ListsTold, PartTold};
 
+use poses::methods::Method;
+use poses::{PoseSet, Query, Room};
 use reporting::{check_told, lists_told, query_told, weights_told};
 use telling::searched;
 
@@ -34,22 +36,25 @@ pub extern "C" fn rutlark_ta(
         tally.old work.old) result told.new picks.new lows.new
         highs.new tally.new work.new }
 {
-    searched(
-        running::TA,
-        m,
-        n,
+    let set = PoseSet {
+        lists: m,
+        poses: n,
         items,
         scores,
+    };
+    let query = Query {
         rule,
-        k,
+        count: k,
         weights,
+    };
+    let mut room = Room {
         picks,
         lows,
         highs,
         tally,
         work,
-        told,
-    )
+    };
+    searched(Method::Ta, set, query, &mut room, told)
 }
 
 // The best position algorithm.
@@ -74,25 +79,28 @@ pub extern "C" fn rutlark_bpa(
         tally.old work.old) result told.new picks.new lows.new
         highs.new tally.new work.new }
 {
-    searched(
-        running::BPA,
-        m,
-        n,
+    let set = PoseSet {
+        lists: m,
+        poses: n,
         items,
         scores,
+    };
+    let query = Query {
         rule,
-        k,
+        count: k,
         weights,
+    };
+    let mut room = Room {
         picks,
         lows,
         highs,
         tally,
         work,
-        told,
-    )
+    };
+    searched(Method::Bpa, set, query, &mut room, told)
 }
 
-// BPA2, by direct access.
+// The best position algorithm that visits no position twice.
 #[unsafe(no_mangle)]
 pub extern "C" fn rutlark_bpa2(
     m: usize,
@@ -114,22 +122,25 @@ pub extern "C" fn rutlark_bpa2(
         tally.old work.old) result told.new picks.new lows.new
         highs.new tally.new work.new }
 {
-    searched(
-        running::BPA2,
-        m,
-        n,
+    let set = PoseSet {
+        lists: m,
+        poses: n,
         items,
         scores,
+    };
+    let query = Query {
         rule,
-        k,
+        count: k,
         weights,
+    };
+    let mut room = Room {
         picks,
         lows,
         highs,
         tally,
         work,
-        told,
-    )
+    };
+    searched(Method::Bpa2, set, query, &mut room, told)
 }
 
 // NRA, by sorted accesses alone.
@@ -154,22 +165,25 @@ pub extern "C" fn rutlark_nra(
         tally.old work.old) result told.new picks.new lows.new
         highs.new tally.new work.new }
 {
-    searched(
-        running::NRA,
-        m,
-        n,
+    let set = PoseSet {
+        lists: m,
+        poses: n,
         items,
         scores,
+    };
+    let query = Query {
         rule,
-        k,
+        count: k,
         weights,
+    };
+    let mut room = Room {
         picks,
         lows,
         highs,
         tally,
         work,
-        told,
-    )
+    };
+    searched(Method::Nra, set, query, &mut room, told)
 }
 
 // The list check by itself.
@@ -185,7 +199,13 @@ pub extern "C" fn rutlark_check_lists(
     ensures { CheckTold (poses m n items.now scores.now) work.old result
         told.new work.new }
 {
-    check_told(m, n, items, scores, work, told)
+    let set = PoseSet {
+        lists: m,
+        poses: n,
+        items,
+        scores,
+    };
+    check_told(set, work, told)
 }
 
 // The read of a query record. The array's numbers are `usize`, as a search takes them.

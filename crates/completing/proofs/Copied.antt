@@ -1,4 +1,5 @@
--- The start of one list written over the start of another, one entry more.
+-- The start of one list written over the start of another.
+--     copied_none, copied_more       no entry; one entry more
 -- Assumes nothing.
 use mathlib.Core.Path.{◌≡◌, refl, ap}
 use mathlib.Core.List.{List, [], ◌∷◌}
@@ -19,3 +20,7 @@ copied_suc (suc i) (x ∷ a) (y ∷ b) in_a in_b = ap (λ (l : List ℕ). x ∷ 
 pub copied_more : (i : ℕ) (a b : List ℕ) → i < length a → i < length b
     → set (over (take i a) b) i (get_or a i 0) ≡ over (take (i + 1) a) b
 copied_more i a b in_a in_b = rw (add-one i) (copied_suc i a b in_a in_b)
+
+pub copied_none : (b : List ℕ) → b ≡ over [] b
+unfolding over
+copied_none b = refl

@@ -6,29 +6,28 @@ ghost use Rattle.std.specs.Prelude.{◌≡◌, ◌≤◌, length, take};
 ghost use Rattle.model.specs.Words.{over};
 ghost use Rattle.completing.specs.Clauses.{OnlySorted};
 
-use meeting::{Direct, Done, Random, Sorted};
+use meeting::{Direct, Found, Random, Sorted};
 
-// Whole scores are known, so the highs are the lows.
+// Whole scores are known, so the highs are the lows. They are copied in a loop and not by `copy_from_slice`, which the compiler
+// makes a call of `memcpy`: a host need give `memset` alone.
+#[tactic(auto, using(crate::proofs::Copied::copied_none, crate::proofs::Copied::copied_more))]
 pub fn repeat_lows(k: usize, lows: &[u32], highs: &mut [u32])
     requires { (k ≤ length lows.now) × (k ≤ length highs.old) }
     ensures { highs.new ≡ over (take k lows.now) highs.old }
 {
-    let mut i = 0;
-    while i < k {
+    for i in 0..k {
         highs[i] = lows[i];
-        i += 1;
     }
 }
 
 // NRA makes one sorted access of each list in each row, and no other.
-pub fn only_sorted(m: usize, rows: u32) -> Done
-    requires { (m ≤ 8) × (rows ≤ 1024) }
-    ensures { OnlySorted m rows result }
+pub fn only_sorted(lists: usize, rows: u32) -> Found
+    requires { (lists ≤ 8) × (rows ≤ 1024) }
+    ensures { OnlySorted lists rows result }
 {
-    let lists = m as u32;
-    Done {
+    Found {
         rows,
-        sorted: Sorted(rows * lists),
+        sorted: Sorted(rows * lists as u32),
         direct: Direct(0),
         random: Random(0),
     }

@@ -4,13 +4,12 @@
 --     Stopped        the same, with what is kept after it
 -- Assumes nothing.
 use Rattle.std.specs.Prelude.{◌≡◌, true, false, List, ℕ, ◌≤◌, ◌<◌}
-use Rattle.halting.specs.Clauses.{View, Legible, halts_of}
+use Rattle.meeting.specs.Clauses.{View}
+use Rattle.halting.specs.Clauses.{halts_of}
 use Rattle.leading.specs.Clauses.{Leading, Rowed}
-use Rattle.ending.specs.declared.Stop.{Stop}
 
--- Every row of the lists may be read, and k is one of 1 to n
+-- At each row of the lists stand items, and k is one of 1 to n
 pub record Sought (v : View) (items : List ℕ) (k : ℕ) : Type 0 where
-  pub legible : Legible v v.n
   pub rowed : (p : ℕ) → 1 ≤ p → p ≤ v.n → Rowed v items p
   pub k_least : 1 ≤ k
   pub k_most : k ≤ v.n
@@ -22,7 +21,7 @@ pub record Halted (v : View) (k r : ℕ) : Type 0 where
   pub holds : r < v.n → halts_of v k r ≡ true
   pub not_sooner : (p : ℕ) → 1 ≤ p → p < r → halts_of v k p ≡ false
 
--- The row at which NRA stops, with the marks after it, the k greatest of them and the items met
-pub record Stopped (v : View) (k : ℕ) (s : Stop) (marks tops met : List ℕ) : Type 0 where
-  pub halted : Halted v k s.row
-  pub leads : Leading v s.row k marks tops met s.count
+-- The row after which NRA stops, with the marks after it, the k greatest of them and the items met
+pub record Stopped (v : View) (k r : ℕ) (marks tops met : List ℕ) (count : ℕ) : Type 0 where
+  pub halted : Halted v k r
+  pub leads : Leading v r k marks tops met count

@@ -1,55 +1,32 @@
 // The row after which NRA stops: rows are read one after the other, and after each its test is asked.
 #![tactic(auto)]
 
-ghost use Rattle.halting.specs.Clauses.{view};
-ghost use Rattle.leading.specs.Clauses.{Leading};
+ghost use Rattle.meeting.specs.Clauses.{view_of};
+ghost use Rattle.leading.specs.Clauses.{Leading, IsSameLedger};
 ghost use Rattle.ending.specs.Clauses.{Sought, Stopped};
 
 use blocking::obstacle;
-use leading::read_row;
+use halting::rows::Rows;
+use leading::Ledger;
 
-// Where NRA stops: after which row, and how many items are met by then.
-#[derive(Clone, Copy)]
-pub struct Stop {
-    pub row: usize,
-    pub count: usize,
-}
-
-// The row after which NRA stops: the first of 1 to n whose test holds, else n. The marks, the k greatest of
-// them and the items met, which are those before any row, become those after it.
-pub fn stopping_row(
-    k: usize,
-    m: usize,
-    n: usize,
-    rule: u8,
-    weights: [u32; 8],
-    items: &[u16],
-    scores: &[u16],
-    work: &[u16],
-    marks: &mut [u32],
-    tops: &mut [u32],
-    met: &mut [u16],
-) -> Stop
-    requires { Sought (view m n rule weights scores.now work.now) items.now k
-        × Leading (view m n rule weights scores.now work.now) 0 k marks.old tops.old met.old 0 }
-    ensures { Stopped (view m n rule weights scores.now work.now) k result
-        marks.new tops.new met.new }
+// The row after which NRA stops: the first of 1 to n whose test holds, else n. The ledger, which is that before
+// any row, becomes the one after it.
+pub fn stopping_row(rows: Rows, k: usize, ledger: &mut Ledger) -> usize
+    requires { Sought (view_of rows.reading) rows.reading.set.items.now k
+        × Leading (view_of rows.reading) 0 k ledger.old.marks.now ledger.old.tops.now ledger.old.met.now
+        ledger.old.count }
+    ensures same { IsSameLedger ledger.old ledger.new }
+    ensures stops { Stopped (view_of rows.entry.reading) k result ledger.new.marks.now ledger.new.tops.now
+        ledger.new.met.now ledger.new.count }
 {
-    let mut count = 0;
     let mut at = 0;
-    let mut p = 0;
-    while p < n {
-        p += 1;
-        count = read_row(
-            p, k, count, m, n, rule, weights, items, scores, work, marks, tops, met,
-        );
-        let top = tops[k - 1];
-        at = obstacle(
-            at, p, k, top, count, m, n, rule, weights, scores, work, marks, met,
-        );
-        if at == n {
-            return Stop { row: p, count };
+    for p in 1..=rows.reading.set.poses {
+        ledger.read_row(rows, p, k);
+        let top = ledger.tops[k - 1];
+        match obstacle(rows, at, p, k, top, ledger.marked(), ledger.listed()) {
+            None => return p,
+            Some(entry) => at = entry,
         }
     }
-    Stop { row: p, count }
+    rows.reading.set.poses
 }

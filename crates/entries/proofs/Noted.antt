@@ -13,8 +13,10 @@ use Rattle.laws.specs.Lists.{row_same}
 use Rattle.laws.specs.Verdicts.{accepted≢refused}
 use Rattle.laws.specs.Marks.{noted}
 use Rattle.laws.specs.Accepted.{noted_place}
-use Rattle.entries.specs.declared.Checked.{Checked}
-use Rattle.entries.specs.Clauses.{poses, value_of, ListNoted}
+use Rattle.std.specs.Prelude.{Result}
+use Rattle.poses.specs.declared.refusals.Refusal.{Refusal}
+use Rattle.poses.specs.Refusals.{value_of}
+use Rattle.entries.specs.Clauses.{poses, ListNoted}
 
 -- How many lists there are does not matter to one of them
 one_list : (m n : ℕ) (items scores : List ℕ) (i : ℕ) {v : Verdict} → in_list (poses 0 n items scores) i ≡ v
@@ -22,7 +24,7 @@ one_list : (m n : ℕ) (items scores : List ℕ) (i : ℕ) {v : Verdict} → in_
 unfolding in_list fault not_item stood_earlier rises item score
 one_list m n items scores i e = e
 
-pub list_refused : {i n x j q : ℕ} {items scores after : List ℕ} {r : Checked} → value_of r ≡ told (refused x j q)
+pub list_refused : {i n x j q : ℕ} {items scores after : List ℕ} {r : Result (Unit {0}) Refusal} → value_of r ≡ told (refused x j q)
     → in_list (poses 0 n items scores) i ≡ refused x j q → ListNoted i n items scores r after
 list_refused {i} {n} {x} {j} {q} {items} {scores} says e =
     record {
@@ -30,7 +32,7 @@ list_refused {i} {n} {x} {j} {q} {items} {scores} says e =
       notes = λ m a. absurd (accepted≢refused (sym a ∙ one_list m n items scores i e));
     }
 
-pub list_passed : {i n : ℕ} {items scores after : List ℕ} {r : Checked} → value_of r ≡ told accepted
+pub list_passed : {i n : ℕ} {items scores after : List ℕ} {r : Result (Unit {0}) Refusal} → value_of r ≡ told accepted
     → in_list (poses 0 n items scores) i ≡ accepted → after ≡ row (noted (item (poses 0 n items scores) i) n) n
     → ListNoted i n items scores r after
 unfolding place item

@@ -1,21 +1,18 @@
 -- The records that the contracts of `entries` cite.
---     poses, value_of         the pose set that is lent; an answer's three numbers, as the model tells them
+--     poses                  the pose set that is lent
 --     Listed, ListNoted      what `walk_list` asks and promises, of one list
 -- Assumes nothing.
-use Rattle.std.specs.Prelude.{◌≡◌, List, ℕ, ◌+◌, ◌*◌, ◌≤◌, ◌<◌, length}
+use Rattle.std.specs.Prelude.{◌≡◌, List, ℕ, ◌+◌, ◌*◌, ◌≤◌, ◌<◌, length, Result}
 use Rattle.model.specs.Words.{row}
 use Rattle.model.specs.Given.{Poses, place}
 use Rattle.model.specs.Refusals.{accepted, in_list}
-use Rattle.model.specs.Answers.{Told, told}
-use Rattle.entries.specs.declared.Checked.{Checked}
+use Rattle.model.specs.Answers.{told}
+use Rattle.poses.specs.declared.refusals.Refusal.{Refusal}
+use Rattle.poses.specs.Refusals.{value_of}
 
 -- the pose set that is lent
 abbrev pub poses : ℕ → ℕ → List ℕ → List ℕ → Poses
 poses m n items scores = record { m = m; n = n; items = items; scores = scores }
-
--- an answer as document 01 has it: number, list, position
-abbrev pub value_of : Checked → Told
-value_of r = record { number = r.number; list = r.list; position = r.position }
 
 -- List i lies within both slices, and a place is lent for each of the n items
 pub record Listed (i n : ℕ) (items scores lent : List ℕ) : Type 0 where
@@ -26,6 +23,6 @@ pub record Listed (i n : ℕ) (items scores lent : List ℕ) : Type 0 where
   pub places_lent : length lent ≡ n
 
 -- List i is tested, and where it passes each item's position is noted. How many lists there are does not matter to one of them
-pub record ListNoted (i n : ℕ) (items scores : List ℕ) (r : Checked) (after : List ℕ) : Type 0 where
+pub record ListNoted (i n : ℕ) (items scores : List ℕ) (r : Result (Unit {0}) Refusal) (after : List ℕ) : Type 0 where
   pub answers : (m : ℕ) → value_of r ≡ told (in_list (poses m n items scores) i)
   pub notes : (m : ℕ) → in_list (poses m n items scores) i ≡ accepted → after ≡ row (λ d. place (poses m n items scores) i d + 1) n

@@ -10,10 +10,7 @@ pub fn fill(bytes: &[u8], from: usize, size: usize, slice: &mut [u16])
     requires { Filling bytes.now from size slice.old }
     ensures { Filled bytes.now from size slice.old slice.new }
 {
-    let mut j = 0;
-    while j < size {
-        let at = from + 4 * j;
-        slice[j] = pair_at(bytes, at) as u16;
-        j += 1;
+    for j in 0..size {
+        slice[j] = pair_at(bytes, from + 4 * j) as u16;
     }
 }

@@ -2,27 +2,27 @@
 --     first_none, first_more     none is among no entry; one entry more
 --     one_more, none_more        a test of the items among these: the next entry passes it too, or does not
 --     first_passing              how many of the items among the first entries pass a test
---     gathered_count             there are as many entries as items with a mark
---     gathered_most, gathered_short      at most n; fewer where an item has none
---     gathered_named             each entry is an item
---     gathered_reach             how many entries have a mark above a bar: how many items
+--     listed_count               there are as many entries as items with a mark
+--     listed_most, listed_short      at most n; fewer where an item has none
+--     listed_reach_is            how many entries have a mark above a bar: how many items
+--     listed_front               the entries alone, in a slice of their own
 --     gathered_start             before any row there is none
 --     gathered_again, gathered_new       an item that is among them has a new mark; one that is not comes behind them
 -- Assumes nothing.
 use Rattle.std.specs.Prelude.{◌≡◌, refl, true, ◌&&◌, ◌||◌, ◌≢◌, List, length, set, replicate}
 use Rattle.std.proofs.Math.Path.{sym}
-use Rattle.std.proofs.Common.{ap, ◌∙◌, arith, length-set, get_or-set_same, get_or-set_other}
+use Rattle.std.proofs.Common.{ap, ◌∙◌, add-one, arith, length-set, get_or-set_same, get_or-set_other}
 use Rattle.std.proofs.Math.Bool.{Bool, false, or-false, or-true, and-true, and-false}
-use Prim.Native.Nat.{ℕ, zero, suc, ◌≤◌, ◌<◌}
+use Prim.Native.Nat.{ℕ, zero, suc, ◌+◌, ◌≤◌, ◌<◌}
 use Rattle.std.proofs.Math.Dec.{eqb, ltb}
-use Rattle.std.proofs.Math.ListN.{get_or}
-use Rattle.std.proofs.lemmas.List.{length-replicate}
+use Rattle.std.proofs.Math.ListN.{get_or, take}
+use Rattle.std.proofs.lemmas.List.{length-replicate, get_or-take}
 use borrow.Author.Tests.{eqb-true, eqb-false, lt-ltb, le-ltb, ltb-true}
 use Rattle.model.specs.Words.{some_below}
 use Rattle.laws.specs.Tests.{by_cases, some_same}
 use Rattle.laws.specs.Lists.{zeros_at}
 use Rattle.laws.specs.Passing.{passing, passing_most, passing_same, passing_all, passing_none, passing_more}
-use Rattle.halting.specs.Clauses.{Named, in_first, Gathered, listed_reach, reach_of}
+use Rattle.halting.specs.Clauses.{in_first, Listed, Gathered, listed_reach, reach_of}
 
 pub first_none : (met : List ℕ) (d : ℕ) → in_first met 0 d ≡ false
 unfolding in_first some_below
@@ -53,7 +53,7 @@ none_more true b t h = refl
 none_more false true t h = h refl
 none_more false false t h = refl
 
-module _ {n : ℕ} {marks met : List ℕ} {count : ℕ} (g : Gathered n marks met count) where
+module _ {n : ℕ} {marks met : List ℕ} {count : ℕ} (g : Listed n marks met count) where
   pub first_passing : (t : ℕ → Bool) (c : ℕ) → c ≤ count
       → passing (λ d. in_first met c d && t d) n ≡ passing (λ j. t (get_or met j 0)) c
   unfolding passing
@@ -76,35 +76,28 @@ module _ {n : ℕ} {marks met : List ℕ} {count : ℕ} (g : Gathered n marks me
       (none_more (in_first met c d) (eqb d e) (t d) (λ (x : eqb d e ≡ true). rw (eqb-true d e x) z)))
       ∙ omega arith))
 
-  pub gathered_count : count ≡ reach_of n marks 0
+  pub listed_count : count ≡ reach_of n marks 0
   unfolding reach_of
-  gathered_count =
+  listed_count =
       sym (passing_all (λ j. true) count (λ j _. refl))
       ∙ sym (first_passing (λ d. true) count (omega arith))
       ∙ passing_same (λ d. in_first met count d && true) (λ d. ltb 0 (get_or marks d 0)) n
       (λ d hd. and-true (in_first met count d) ∙ g.met_are d hd)
 
-  pub gathered_most : count ≤ n
+  pub listed_most : count ≤ n
   unfolding reach_of
-  gathered_most = omega (arith, gathered_count, passing_most (λ d. ltb 0 (get_or marks d 0)) n)
+  listed_most = omega (arith, listed_count, passing_most (λ d. ltb 0 (get_or marks d 0)) n)
 
-  pub gathered_short : (d : ℕ) → d < n → get_or marks d 0 ≡ 0 → count < n
+  pub listed_short : (d : ℕ) → d < n → get_or marks d 0 ≡ 0 → count < n
   unfolding reach_of
-  gathered_short d hd none =
+  listed_short d hd none =
       let t : ℕ → Bool = λ x. ltb 0 (get_or marks x 0) in
       let u : ℕ → Bool = λ x. t x || eqb x d in
-      omega (arith, gathered_count, passing_more t u n d hd (rw none (le-ltb 0 0 (omega arith))) (λ x _. refl), passing_most u n)
+      omega (arith, listed_count, passing_more t u n d hd (rw none (le-ltb 0 0 (omega arith))) (λ x _. refl), passing_most u n)
 
-  pub gathered_named : (c : ℕ) → c ≤ count → Named n met c
-  gathered_named c h =
-      record {
-        within = omega (arith, gathered_most, g.met_long);
-        items_small = λ j l. g.items_small j (omega arith);
-      }
-
-  pub gathered_reach : (bar : ℕ) → listed_reach count marks met bar ≡ reach_of n marks bar
+  pub listed_reach_is : (bar : ℕ) → listed_reach count marks met bar ≡ reach_of n marks bar
   unfolding listed_reach reach_of
-  gathered_reach bar =
+  listed_reach_is bar =
       let t : ℕ → Bool = λ d. ltb bar (get_or marks d 0) in
       sym (first_passing t count (omega arith))
       ∙ passing_same (λ d. in_first met count d && t d) t n
@@ -114,13 +107,31 @@ module _ {n : ℕ} {marks met : List ℕ} {count : ℕ} (g : Gathered n marks me
       rw (y, g.met_are d hd) (and-true (ltb 0 (get_or marks d 0)) ∙ lt-ltb 0 (get_or marks d 0) (omega (arith, ltb-true bar (get_or marks d 0) y))))
       (λ (z : t d ≡ false). rw z (and-false (in_first met count d))))
 
+-- entries past the first c may be cut off
+first_taken : (met : List ℕ) (c count d : ℕ) → c ≤ count → in_first (take count met) c d ≡ in_first met c d
+unfolding in_first
+first_taken met c count d h =
+    some_same (λ j. eqb d (get_or (take count met) j 0)) (λ j. eqb d (get_or met j 0)) c
+    (λ j l. ap (eqb d) (get_or-take count met j 0 (omega arith)))
+
+pub listed_front : {n : ℕ} {marks met : List ℕ} {count : ℕ} → Listed n marks met count → Listed n marks (take count met) count
+listed_front {n} {marks} {met} {count} g =
+    record {
+      items_small = λ j h. rw (get_or-take count met j 0 h) (g.items_small j h);
+      met_are = λ d hd. first_taken met count count d (omega arith) ∙ g.met_are d hd;
+      once_each = λ j h.
+          rw (get_or-take count met j 0 h) (first_taken met j count (get_or met j 0) (omega arith) ∙ g.once_each j h);
+    }
+
 pub gathered_start : (n : ℕ) → n ≤ 1024 → Gathered n (replicate 1024 0) (replicate 1024 0) 0
 gathered_start n most =
     record {
       met_long = omega (arith, length-replicate {A = ℕ} 1024 0);
-      items_small = λ j h. absurd (omega arith);
-      met_are = λ d _. first_none (replicate 1024 0) d ∙ sym (rw (zeros_at 1024 d) (le-ltb 0 0 (omega arith)));
-      once_each = λ j h. absurd (omega arith);
+      listed = record {
+        items_small = λ j h. absurd (omega arith);
+        met_are = λ d _. first_none (replicate 1024 0) d ∙ sym (rw (zeros_at 1024 d) (le-ltb 0 0 (omega arith)));
+        once_each = λ j h. absurd (omega arith);
+      };
     }
 
 -- ---- item d has a new mark
@@ -140,13 +151,15 @@ module _ {n d new count : ℕ} {marks met : List ℕ} (long : n ≤ length marks
   gathered_again known =
       record {
         met_long = g.met_long;
-        items_small = g.items_small;
-        met_are = λ x hx.
-            g.met_are x hx
-            ∙ sym (marked_then x ∙ by_cases (eqb x d)
-            (λ (y : eqb x d ≡ true). rw (y, eqb-true x d y, lt-ltb 0 (get_or marks d 0) known))
-            (λ (z : eqb x d ≡ false). rw z (or-false (ltb 0 (get_or marks x 0)))));
-        once_each = g.once_each;
+        listed = record {
+          items_small = g.listed.items_small;
+          met_are = λ x hx.
+              g.listed.met_are x hx
+              ∙ sym (marked_then x ∙ by_cases (eqb x d)
+              (λ (y : eqb x d ≡ true). rw (y, eqb-true x d y, lt-ltb 0 (get_or marks d 0) known))
+              (λ (z : eqb x d ≡ false). rw z (or-false (ltb 0 (get_or marks x 0)))));
+          once_each = g.listed.once_each;
+        };
       }
 
   module _ (none : get_or marks d 0 ≡ 0) where
@@ -154,28 +167,31 @@ module _ {n d new count : ℕ} {marks met : List ℕ} (long : n ≤ length marks
     met' = set met count d
 
     pub gathered_room : count < length met
-    gathered_room = omega (arith, gathered_short g d small none, g.met_long)
+    gathered_room = omega (arith, listed_short g.listed d small none, g.met_long)
 
     at_end : get_or met' count 0 ≡ d
     at_end = get_or-set_same met count d 0 gathered_room
 
-    pub gathered_new : Gathered n (set marks d new) met' (suc count)
+    pub gathered_new : Gathered n (set marks d new) met' (count + 1)
     gathered_new =
-        record {
+        rw (add-one count)
+        (record {
           met_long = rw (length-set met count d) g.met_long;
-          items_small = λ j h.
-              by_cases (eqb j count)
-              (λ (y : eqb j count ≡ true). rw (eqb-true j count y, at_end) small)
-              (λ (z : eqb j count ≡ false).
-              let apart : j ≢ count = eqb-false j count z in
-              rw (get_or-set_other met count j d 0 apart) (g.items_small j (omega arith)));
-          met_are = λ x hx.
-              rw (first_more met' count x, at_end, first_set met count count d x (omega arith), g.met_are x hx) (sym (marked_then x));
-          once_each = λ j h.
-              by_cases (eqb j count)
-              (λ (y : eqb j count ≡ true).
-              rw (eqb-true j count y, at_end, first_set met count count d d (omega arith), g.met_are d small, none) (le-ltb 0 0 (omega arith)))
-              (λ (z : eqb j count ≡ false).
-              let apart : j ≢ count = eqb-false j count z in
-              rw (get_or-set_other met count j d 0 apart, first_set met j count d (get_or met j 0) (omega arith)) (g.once_each j (omega arith)));
-        }
+          listed = record {
+            items_small = λ j h.
+                by_cases (eqb j count)
+                (λ (y : eqb j count ≡ true). rw (eqb-true j count y, at_end) small)
+                (λ (z : eqb j count ≡ false).
+                let apart : j ≢ count = eqb-false j count z in
+                rw (get_or-set_other met count j d 0 apart) (g.listed.items_small j (omega arith)));
+            met_are = λ x hx.
+                rw (first_more met' count x, at_end, first_set met count count d x (omega arith), g.listed.met_are x hx) (sym (marked_then x));
+            once_each = λ j h.
+                by_cases (eqb j count)
+                (λ (y : eqb j count ≡ true).
+                rw (eqb-true j count y, at_end, first_set met count count d d (omega arith), g.listed.met_are d small, none) (le-ltb 0 0 (omega arith)))
+                (λ (z : eqb j count ≡ false).
+                let apart : j ≢ count = eqb-false j count z in
+                rw (get_or-set_other met count j d 0 apart, first_set met j count d (get_or met j 0) (omega arith)) (g.listed.once_each j (omega arith)));
+          };
+        })

@@ -26,9 +26,9 @@ use Rattle.laws.specs.Tests.{by_cases, and_yes, some_not, every_all, every_at, l
 use Rattle.laws.specs.Passing.{passing, passing_same, passing_wider, passing_all}
 use Rattle.laws.specs.Ahead.{or_yes, never}
 use Rattle.laws.specs.Overall.{joined_same, joined_rises, joined_most, product_most}
-use Rattle.meeting.specs.Clauses.{read_at, unread, limit_at}
+use Rattle.meeting.specs.Clauses.{View, bound_of, read_at, unread, limit_at}
 use Rattle.halting.specs.Bar.{held, parts, halts_parted, parts_halts}
-use Rattle.halting.specs.Clauses.{View, bound_of, met_of, halts_of, Legible, mark_of, Marked, reach_of, Barred, passes_of, above_of, unmet_of, parts_of}
+use Rattle.halting.specs.Clauses.{met_of, halts_of, Legible, mark_of, Marked, reach_of, Barred, passes_of, above_of, unmet_of, parts_of}
 
 -- what stands for a local score that is not read
 unread_most : (high : Bool) (n : ℕ) (scores : List ℕ) (p i : ℕ) → ((j : ℕ) → get_or scores j 0 ≤ 65535)

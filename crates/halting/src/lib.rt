@@ -2,117 +2,62 @@
 // parts the first k items from all others.
 #![tactic(auto)]
 
-ghost use Rattle.std.specs.Prelude.{◌≡◌, not, ◌≤◌, ◌<◌, leb, ltb, length};
-ghost use Rattle.laws.specs.Lookups.{once};
-ghost use Rattle.halting.specs.Clauses.{view, mark_of, listed_reach, passes_of, above_of, Legible, Marked, Named, Blocking};
+pub mod rows;
 
-use entries::wide;
-use meeting::bound;
+ghost use Rattle.std.specs.Prelude.{◌≡◌, not, ◌≤◌, ◌<◌, leb, length};
+ghost use Rattle.meeting.specs.Clauses.{view_of};
+ghost use Rattle.halting.specs.Clauses.{mark_of, listed_reach, passes_of, above_of, Marked, Named, Blocking};
 
-// 1 where x is above the bar.
-fn above(bar: u32, x: u32) -> usize
-    ensures { result ≡ once (ltb bar x) }
-{
-    if bar < x {
-        return 1;
-    }
-    0
-}
+use rows::Rows;
 
-// How many of the first `count` entries of `met` are items whose mark is above the bar.
-pub fn reach(count: usize, bar: u32, marks: &[u32], met: &[u16]) -> usize
-    requires { (count ≤ 1024) × Named (length marks.now) met.now count }
-    ensures { result ≡ listed_reach count marks.now met.now bar }
+// How many entries of `met` are items whose mark is above the bar.
+#[tactic(auto, using(crate::proofs::Counting::one_counted, laws::specs::Passing::passing_most), unfolding(crate::specs::Clauses::listed_reach, laws::specs::Passing::passing))]
+pub fn reach(bar: u32, marks: &[u32], met: &[u16]) -> usize
+    requires { Named (length marks.now) met.now }
+    ensures { result ≡ listed_reach (length met.now) marks.now met.now bar }
 {
     let mut total = 0;
-    let mut j = 0;
-    while j < count {
-        let d = wide(met[j]);
-        total += above(bar, marks[d]);
-        j += 1;
+    for &item in met {
+        total += usize::from(bar < marks[usize::from(item)]);
     }
     total
 }
 
 // Item d, whose mark is `own`, stands in the way of stopping: its high is above the bar, and it is not met or
 // its low does not reach the bar.
-fn in_the_way(
-    d: usize,
-    p: usize,
-    bar: u32,
-    own: u32,
-    m: usize,
-    n: usize,
-    rule: u8,
-    weights: &[u32; 8],
-    scores: &[u16],
-    work: &[u16],
-) -> bool
-    requires { Legible (view m n rule weights.now scores.now work.now) p × (d < n)
-        × (own ≡ mark_of (view m n rule weights.now scores.now work.now) p d) }
-    ensures { result ≡ not (passes_of (view m n rule weights.now scores.now
-        work.now) p bar d) }
+#[tactic(auto, using(crate::proofs::Blocks::low_over, crate::proofs::Blocks::low_under))]
+fn in_the_way(rows: Rows, d: usize, p: usize, bar: u32, own: u32) -> bool
+    requires { (1 ≤ p) × (p ≤ rows.reading.set.poses) × (d < rows.reading.set.poses)
+        × (own ≡ mark_of (view_of rows.reading) p d) }
+    ensures { result ≡ not (passes_of (view_of rows.entry.reading) p bar d) }
 {
-    if bar < own {
-        return false;
-    }
-    bar < bound(true, d, p, m, n, rule, weights, scores, work)
+    own <= bar && bar < rows.high(d, p)
 }
 
-// The first entry of `met` from `from` on and before `to` whose item stands in the way of stopping after p
-// rows, or `to`.
-pub fn blocker(
-    from: usize,
-    to: usize,
-    p: usize,
-    bar: u32,
-    m: usize,
-    n: usize,
-    rule: u8,
-    weights: [u32; 8],
-    scores: &[u16],
-    work: &[u16],
-    marks: &[u32],
-    met: &[u16],
-) -> usize
-    requires { Legible (view m n rule weights scores.now work.now) p
-        × Marked (view m n rule weights scores.now work.now) p marks.now
-        × Named n met.now to × (from ≤ to) × (to ≤ n) }
-    ensures { Blocking (view m n rule weights scores.now work.now) p bar
-        met.now from to result }
+// The first entry of `met` whose item stands in the way of stopping after p rows.
+pub fn blocker(rows: Rows, p: usize, bar: u32, marks: &[u32], met: &[u16]) -> Option<usize>
+    requires { (1 ≤ p) × (p ≤ rows.reading.set.poses) × Marked (view_of rows.reading) p marks.now
+        × Named rows.reading.set.poses met.now }
+    ensures { Blocking (view_of rows.entry.reading) p bar met.now result }
 {
-    let mut j = from;
-    while j < to {
-        let d = wide(met[j]);
-        if in_the_way(d, p, bar, marks[d], m, n, rule, &weights, scores, work) {
-            return j;
+    for (j, &item) in met.iter().enumerate() {
+        let d = usize::from(item);
+        if in_the_way(rows, d, p, bar, marks[d]) {
+            return Some(j);
         }
-        j += 1;
     }
-    j
+    None
 }
 
 // At most k items have highs above the bar.
-pub fn few_above(
-    p: usize,
-    k: usize,
-    bar: u32,
-    m: usize,
-    n: usize,
-    rule: u8,
-    weights: [u32; 8],
-    scores: &[u16],
-    work: &[u16],
-) -> bool
-    requires { Legible (view m n rule weights scores.now work.now) p }
-    ensures { result ≡ leb (above_of (view m n rule weights scores.now work.now) p bar)
-        k }
+#[tactic(auto, using(crate::proofs::Counting::one_counted, laws::specs::Passing::passing_most), unfolding(crate::specs::Clauses::above_of, laws::specs::Passing::passing))]
+pub fn few_above(rows: Rows, p: usize, k: usize, bar: u32) -> bool
+    requires { (1 ≤ p) × (p ≤ rows.reading.set.poses) }
+    ensures { result ≡ leb (above_of (view_of rows.entry.reading) p bar) k }
 {
     let mut count = 0;
-    let mut d = 0;
-    while d < n {
-        count += above(bar, bound(true, d, p, m, n, rule, &weights, scores, work));
-        d += 1;
+    for d in 0..rows.reading.set.poses {
+        count += usize::from(bar < rows.high(d, p));
     }
     count <= k
 }

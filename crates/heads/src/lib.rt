@@ -2,17 +2,13 @@
 // Numbers are big-endian, and a record's length counts the bytes after itself.
 #![tactic(auto)]
 
-ghost use Rattle.std.specs.Prelude.{◌≡◌, ◌+◌, ◌≤◌, ◌<◌, length};
-ghost use Rattle.model.specs.Refusals.{pair};
+ghost use Rattle.std.specs.Prelude.{◌≡◌, ◌+◌, ◌≤◌, ◌<◌, length, OnOk};
+ghost use Rattle.model.specs.Refusals.{pair, accepted};
 ghost use Rattle.model.specs.Records.{quad, query_count, query_head, lists_m, lists_n, lists_head};
 ghost use Rattle.model.specs.Answers.{told};
+ghost use Rattle.poses.specs.Refusals.{value_of};
 
-// A byte as a number to compute with.
-fn wide(x: u8) -> usize
-    ensures { (result ≡ x) × (result < 256) }
-{
-    x as usize
-}
+use poses::refusals::Refusal;
 
 // The number in the two bytes from `at` on, the higher one first.
 #[tactic(auto, unfolding(model::specs::Refusals::pair))]
@@ -20,9 +16,7 @@ pub fn pair_at(bytes: &[u8], at: usize) -> usize
     requires { at + 1 < length bytes.now }
     ensures { (result ≡ pair bytes.now at) × (result < 65536) }
 {
-    let high = wide(bytes[at]);
-    let low = wide(bytes[at + 1]);
-    high * 256 + low
+    usize::from(bytes[at]) * 256 + usize::from(bytes[at + 1])
 }
 
 // A record's length, in its first four bytes. It reaches 2^32 - 1, to which nothing can be added in
@@ -41,7 +35,7 @@ pub fn query_count(query: &[u8]) -> usize
     requires { 9 ≤ length query.now }
     ensures { (result ≡ query_count query.now) × (result < 256) }
 {
-    wide(query[8])
+    usize::from(query[8])
 }
 
 // How many lists a list record says that it has.
@@ -50,7 +44,7 @@ pub fn lists_m(lists: &[u8]) -> usize
     requires { 8 ≤ length lists.now }
     ensures { (result ≡ lists_m lists.now) × (result < 256) }
 {
-    wide(lists[5])
+    usize::from(lists[5])
 }
 
 // How many items a list record says that it has.
@@ -62,53 +56,51 @@ pub fn lists_n(lists: &[u8]) -> usize
     pair_at(lists, 6)
 }
 
-// The tests of a query record: the number of the first that refuses, and 0 where none does.
+// The tests of a query record, in their order.
 #[tactic(auto, unfolding(model::specs::Records::query_head))]
-pub fn query_head(query: &[u8]) -> u32
-    ensures { result ≡ (told (query_head query.now)).number }
+pub fn query_head(query: &[u8]) -> Result<(), Refusal>
+    ensures tells { value_of result ≡ told (query_head query.now) }
+    ensures passes { OnOk result (query_head query.now ≡ accepted) }
 {
     if query.len() < 9 {
-        return 10;
+        return Err(Refusal::ShortRecord);
     }
-    let rest = query.len() - 4;
     let length = length_of(query);
-    let counted = 5 + 2 * query_count(query);
     if query[4] != 1 {
-        return 12;
+        return Err(Refusal::WrongVersion);
     }
-    if length != counted {
-        return 13;
+    if length != 5 + 2 * query_count(query) {
+        return Err(Refusal::WrongCounts);
     }
-    if rest < length {
-        return 11;
+    if query.len() - 4 < length {
+        return Err(Refusal::WrongLength);
     }
-    0
+    Ok(())
 }
 
-// The tests of a list record but for its last, 6, which is of the slices: the number of the first
-// that refuses, and 0 where none does.
+// The tests of a list record but for its last, the room for its entries, which is of the slices.
 #[tactic(auto, using(laws::specs::Accepted::sized, laws::specs::Accepted::size_fits), unfolding(model::specs::Records::lists_head))]
-pub fn lists_head(lists: &[u8]) -> u32
-    ensures { result ≡ (told (lists_head lists.now)).number }
+pub fn lists_head(lists: &[u8]) -> Result<(), Refusal>
+    ensures tells { value_of result ≡ told (lists_head lists.now) }
+    ensures passes { OnOk result (lists_head lists.now ≡ accepted) }
 {
     if lists.len() < 8 {
-        return 10;
+        return Err(Refusal::ShortRecord);
     }
-    let rest = lists.len() - 4;
     let length = length_of(lists);
-    if length != rest {
-        return 11;
+    if length != lists.len() - 4 {
+        return Err(Refusal::WrongLength);
     }
     if lists[4] != 1 {
-        return 12;
+        return Err(Refusal::WrongVersion);
     }
     let m = lists_m(lists);
     let n = lists_n(lists);
     if lists::wrong_size(m, n) {
-        return 1;
+        return Err(Refusal::WrongSize);
     }
     if length != 4 + 2 * m + 4 * (m * n) {
-        return 13;
+        return Err(Refusal::WrongCounts);
     }
-    0
+    Ok(())
 }

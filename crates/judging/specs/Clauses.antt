@@ -3,7 +3,7 @@
 --     Counting, Counted      what the counts ask, and what they are
 -- Assumes nothing.
 use Rattle.std.specs.Prelude.{◌≡◌, cond, List, ℕ, ◌-◌, ◌*◌, ◌≤◌, ◌<◌, eqb, get_or}
-use Rattle.meeting.specs.declared.Done.{Done}
+use Rattle.meeting.specs.declared.Found.{Found}
 use Rattle.noting.specs.Clauses.{walked_to}
 
 -- What the threshold's positions are
@@ -18,7 +18,7 @@ pub record Counting (p m found : ℕ) : Type 0 where
   pub found_most : found ≤ 8192
 
 -- Each lookup is one access of the search's own kind and a random one in each other list
-pub record Counted (which p m found : ℕ) (d : Done) : Type 0 where
+pub record Counted (which p m found : ℕ) (d : Found) : Type 0 where
   pub rows_are : d.rows ≡ p
   pub sorted_are : d.sorted.0 ≡ cond (eqb which 2) 0 found
   pub direct_are : d.direct.0 ≡ cond (eqb which 2) found 0

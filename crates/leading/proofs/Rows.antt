@@ -21,8 +21,8 @@ use borrow.Author.Tests.{eqb-true, eqb-false, leb-true, leb-false, le-leb, lt-le
 use Rattle.model.specs.Words.{some_below}
 use Rattle.laws.specs.Tests.{by_cases, some_hit, some_found, some_not, some_same}
 use Rattle.laws.specs.Overall.{joined_rises, joined_same}
-use Rattle.meeting.specs.Clauses.{read_at, unread}
-use Rattle.halting.specs.Clauses.{View, bound_of, met_of, mark_of, Marked}
+use Rattle.meeting.specs.Clauses.{View, bound_of, read_at, unread}
+use Rattle.halting.specs.Clauses.{met_of, mark_of, Marked}
 use Rattle.leading.specs.Clauses.{item_at, Rowed, stands, row_mark, Begun}
 
 module _ (v : View) (p d : ℕ) where

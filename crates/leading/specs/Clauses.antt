@@ -3,11 +3,15 @@
 --     item_at, Rowed  the item at row p of a list; what these items are
 --     ReadableRow    what reading a row asks, apart from the marks
 --     stands, row_mark, Begun     an item stands at row p of one of the first i lists; its mark, and every item's, once these lists' row p is read
+--     Partway        what is kept then
+--     IsSameLedger   a ledger's slices are the ones that were lent
 -- Assumes nothing.
 use Rattle.std.specs.Prelude.{◌≡◌, Bool, cond, List, ℕ, ◌+◌, ◌-◌, ◌*◌, ◌≤◌, ◌<◌, eqb, length, get_or}
 use Rattle.model.specs.Words.{some_below}
-use Rattle.halting.specs.Clauses.{View, Legible, mark_of, Marked, Gathered}
+use Rattle.meeting.specs.Clauses.{View}
+use Rattle.halting.specs.Clauses.{mark_of, Marked, Gathered}
 use Rattle.raising.specs.Clauses.{Led}
+use Rattle.leading.specs.declared.Ledger.{Ledger}
 
 -- After p rows: each item's mark, the k greatest of them, and the items met, `count` of them
 pub record Leading (v : View) (p k : ℕ) (marks tops met : List ℕ) (count : ℕ) : Type 0 where
@@ -28,7 +32,8 @@ pub record Rowed (v : View) (items : List ℕ) (p : ℕ) : Type 0 where
 
 -- What reading row p asks, apart from the marks
 pub record ReadableRow (v : View) (items : List ℕ) (p k : ℕ) : Type 0 where
-  pub legible : Legible v p
+  pub row_least : 1 ≤ p
+  pub row_most : p ≤ v.n
   pub rowed : Rowed v items p
   pub k_least : 1 ≤ k
 
@@ -45,3 +50,15 @@ row_mark v items p i d = cond (stands v items p i d) (mark_of v p d) (mark_of v 
 pub record Begun (v : View) (items : List ℕ) (p i : ℕ) (marks : List ℕ) : Type 0 where
   pub marks_long : v.n ≤ length marks
   pub marks_are : (d : ℕ) → d < v.n → get_or marks d 0 ≡ row_mark v items p i d
+
+-- What is kept once row p of the first i lists is read: each item's mark then, the k greatest of them, and the items met
+pub record Partway (v : View) (items : List ℕ) (p i k : ℕ) (marks tops met : List ℕ) (count : ℕ) : Type 0 where
+  pub begun : Begun v items p i marks
+  pub led : Led v.n k marks tops
+  pub gathered : Gathered v.n marks met count
+
+-- The slices are the ones that were lent, whatever stands in them by now
+pub record IsSameLedger (a b : Ledger) : Type 0 where
+  pub marks_same : b.marks.ghost_name ≡ a.marks.ghost_name
+  pub tops_same : b.tops.ghost_name ≡ a.tops.ghost_name
+  pub met_same : b.met.ghost_name ≡ a.met.ghost_name

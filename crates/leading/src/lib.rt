@@ -2,81 +2,75 @@
 // of the row is looked at for it.
 #![tactic(auto)]
 
-ghost use Rattle.std.specs.Prelude.{◌+◌, ◌-◌, ◌≤◌, ◌<◌};
-ghost use Rattle.halting.specs.Clauses.{view, Gathered};
-ghost use Rattle.raising.specs.Clauses.{Led};
-ghost use Rattle.leading.specs.Clauses.{Leading, ReadableRow, Begun};
+ghost use Rattle.std.specs.Prelude.{◌≡◌, length, take, ◌+◌, ◌-◌, ◌≤◌, ◌<◌};
+ghost use Rattle.meeting.specs.Clauses.{view_of};
+ghost use Rattle.leading.specs.Clauses.{Leading, ReadableRow, Partway, IsSameLedger};
 
-use entries::wide;
+use halting::rows::Rows;
 use raising::{gather, mark, raise};
 
-// The item that stands at row p of list i: its mark, the k greatest and the items met, of which the answer
-// says how many there are.
-fn read_entry(
-    i: usize,
-    p: usize,
-    k: usize,
-    count: usize,
-    m: usize,
-    n: usize,
-    rule: u8,
-    weights: [u32; 8],
-    items: &[u16],
-    scores: &[u16],
-    work: &[u16],
-    marks: &mut [u32],
-    tops: &mut [u32],
-    met: &mut [u16],
-) -> usize
-    requires { ReadableRow (view m n rule weights scores.now work.now) items.now p k × (i < m)
-        × Begun (view m n rule weights scores.now work.now) items.now p i marks.old
-        × Led n k marks.old tops.old × Gathered n marks.old met.old count }
-    ensures { Begun (view m n rule weights scores.now work.now)
-        items.now p (i + 1) marks.new × Led n k marks.new tops.new
-        × Gathered n marks.new met.new result × (count ≤ result) }
-{
-    let base = i * n;
-    let end = base + p;
-    let at = end - 1;
-    let item = items[at];
-    let d = wide(item);
-    let new = mark(d, p, m, n, rule, weights, scores, work);
-    let old = marks[d];
-    marks[d] = new;
-    raise(k, old, new, tops);
-    gather(item, old, count, met)
+/// What is kept as rows are read, in slices that are lent.
+#[derive(Drop)]
+pub struct Ledger<'a> {
+    /// Each item's mark: its low and one more, or 0 where it is not met.
+    pub marks: &'a mut [u32],
+    /// The k greatest of them, falling.
+    pub tops: &'a mut [u32],
+    /// The items met, in the order in which they were; no entry past the first `count` counts.
+    pub met: &'a mut [u16],
+    /// How many items are met.
+    pub count: usize,
 }
 
-// Row p: the marks after p - 1 rows, the k greatest of them and the items met become those after p rows. The
-// answer is how many items are met.
-pub fn read_row(
-    p: usize,
-    k: usize,
-    count: usize,
-    m: usize,
-    n: usize,
-    rule: u8,
-    weights: [u32; 8],
-    items: &[u16],
-    scores: &[u16],
-    work: &[u16],
-    marks: &mut [u32],
-    tops: &mut [u32],
-    met: &mut [u16],
-) -> usize
-    requires { ReadableRow (view m n rule weights scores.now work.now) items.now p k
-        × Leading (view m n rule weights scores.now work.now) (p - 1) k marks.old tops.old met.old
-        count }
-    ensures { Leading (view m n rule weights scores.now work.now) p k
-        marks.new tops.new met.new result × (count ≤ result) }
-{
-    let mut gathered = count;
-    let mut i = 0;
-    while i < m {
-        gathered = read_entry(
-            i, p, k, gathered, m, n, rule, weights, items, scores, work, marks, tops, met,
-        );
-        i += 1;
+impl Ledger<'_> {
+    // The item that stands at row p of list i: its mark, the k greatest and the items met.
+    fn read_entry(&mut self, rows: Rows, i: usize, p: usize, k: usize)
+        requires { ReadableRow (view_of rows.reading) rows.reading.set.items.now p k
+            × (i < rows.reading.set.lists)
+            × Partway (view_of rows.reading) rows.reading.set.items.now p i k self.old.marks.now
+            self.old.tops.now self.old.met.now self.old.count }
+        ensures same { IsSameLedger self.old self.new }
+        ensures read { Partway (view_of rows.entry.reading) rows.entry.reading.set.items.now p (i + 1) k
+            self.new.marks.now self.new.tops.now self.new.met.now self.new.count }
+        ensures grows { self.old.count ≤ self.new.count }
+    {
+        let set = rows.reading.set;
+        let item = set.items[i * set.poses + p - 1];
+        let d = usize::from(item);
+        let new = mark(rows, d, p);
+        let old = self.marks[d];
+        self.marks[d] = new;
+        raise(k, old, new, self.tops);
+        self.count = gather(item, old, self.count, self.met);
     }
-    gathered
+
+    /// Row p: the marks after p - 1 rows, the k greatest of them and the items met become those after p rows.
+    pub fn read_row(&mut self, rows: Rows, p: usize, k: usize)
+        requires { ReadableRow (view_of rows.reading) rows.reading.set.items.now p k
+            × Leading (view_of rows.reading) (p - 1) k self.old.marks.now self.old.tops.now
+            self.old.met.now self.old.count }
+        ensures same { IsSameLedger self.old self.new }
+        ensures read { Leading (view_of rows.entry.reading) p k self.new.marks.now self.new.tops.now
+            self.new.met.now self.new.count }
+        ensures grows { self.old.count ≤ self.new.count }
+    {
+        for i in 0..rows.reading.set.lists {
+            self.read_entry(rows, i, p, k);
+        }
+    }
+
+    /// The items met, in the order in which they were.
+    pub fn listed(&self) -> &[u16]
+        requires { self.now.count ≤ length self.now.met.now }
+        ensures { result.now ≡ take self.now.count self.now.met.now }
+    {
+        &self.met[..self.count]
+    }
+
+    /// Each item's mark.
+    pub fn marked(&self) -> &[u32]
+        ensures { result.now ≡ self.now.marks.now }
+    {
+        self.marks
+    }
 }

@@ -4,8 +4,11 @@
 --     so_far_next        one line more, of a search that is accepted
 --     so_far_refused     the line of a refusal, which is the only one
 --     so_far_all         all four
+--     line_of_number     the line of a search, by its number
 -- Assumes nothing.
-use mathlib.Core.Path.{◌≡◌, sym, ap, ◌∙◌}
+use mathlib.Core.Path.{◌≡◌, refl, sym, ap, subst, ◌∙◌}
+use Rattle.poses.specs.declared.methods.Method.{Method}
+use Rattle.poses.specs.Methods.{method_of, method_number}
 use mathlib.Core.List.{List}
 use Prim.Native.Nat.{ℕ, zero, suc, ◌+◌, ◌*◌, ◌≤◌, ◌<◌}
 use native.Mathlib.Omega.{arith}
@@ -13,7 +16,9 @@ use Rattle.model.specs.Refusals.{Verdict, accepted, Lent, search_verdict}
 use Rattle.model.specs.Answers.{told}
 use Rattle.fields.specs.Clauses.{Appended}
 use Rattle.fields.specs.Appending.{appended_none, appended_is, appended_then}
-use Rattle.lines.specs.declared.Line.{Line}
+use Rattle.std.specs.Prelude.{Result}
+use Rattle.poses.specs.declared.refusals.Refusal.{Refusal}
+use Rattle.poses.specs.Refusals.{value_of}
 use Rattle.wording.specs.Clauses.{line_room}
 use Rattle.lines.specs.Clauses.{one_line, lines_to, LineMade, Lines}
 use Rattle.lines.specs.Alike.{Alike, alike_verdict, alike_one}
@@ -44,16 +49,16 @@ refused_first zero {l} so_far w some = appended_is (one_refused l 0 some) (appen
 refused_first (suc which) so_far w some =
     absurd (some (ap (λ (v : Verdict). (told v).number) (so_far.passed (omega arith))))
 
-module _ {which : ℕ} {l now_lent : Lent} {before out after : List ℕ} {at : ℕ} {made : Line}
-    (so_far : SoFar which l before at out) (alike : Alike now_lent l) (one : LineMade which now_lent out at made after) where
+module _ {which : ℕ} {l now_lent : Lent} {before out after : List ℕ} {at end : ℕ} {made : Result (Unit {0}) Refusal}
+    (so_far : SoFar which l before at out) (alike : Alike now_lent l) (one : LineMade which now_lent out at made end after) where
   -- the line that was made is one over what was lent at the start
-  number_same : made.number ≡ (told (search_verdict l)).number
+  number_same : (value_of made).number ≡ (told (search_verdict l)).number
   number_same = one.number_is ∙ ap (λ (v : Verdict). (told v).number) (alike_verdict alike)
 
-  line_same : Appended (one_line which l) out at after made.end
+  line_same : Appended (one_line which l) out at after end
   line_same = appended_is (alike_one alike which) one.appended
 
-  pub so_far_next : made.number ≡ 0 → which < 4 → SoFar (which + 1) l before made.end after
+  pub so_far_next : (value_of made).number ≡ 0 → which < 4 → SoFar (which + 1) l before end after
   so_far_next none more =
       let passes = told_accepted l (sym number_same ∙ none) in
       record {
@@ -63,7 +68,7 @@ module _ {which : ℕ} {l now_lent : Lent} {before out after : List ℕ} {at : �
         appended = appended_is (lines_next l which passes) (appended_then so_far.appended line_same);
       }
 
-  pub so_far_refused : (made.number ≡ 0 → ⊥) → Lines l before made.end after
+  pub so_far_refused : ((value_of made).number ≡ 0 → ⊥) → Lines l before end after
   so_far_refused some = refused_first which so_far line_same (λ none. some (number_same ∙ none))
 
 pub so_far_all : {which : ℕ} {l : Lent} {before out : List ℕ} {at : ℕ} → SoFar which l before at out → 4 ≤ which
@@ -72,3 +77,17 @@ so_far_all {which} {l} {before} {out} {at} so_far done =
     let four : which ≡ 4 = omega (arith, so_far.most) in
     let all : Appended (lines_to 4 l) before 0 out at = rw four at so_far.appended in
     appended_is (lines_four l (so_far.passed (omega arith))) all
+
+number_kept : (number : ℕ) → number < 4 → method_number (method_of number) ≡ number
+number_kept zero small = refl
+number_kept (suc zero) small = refl
+number_kept (suc (suc zero)) small = refl
+number_kept (suc (suc (suc zero))) small = refl
+number_kept (suc (suc (suc (suc number)))) small = absurd (omega (arith, small))
+
+-- the line of a search by its number
+pub line_of_number : {number : ℕ} {method : Method} {l : Lent} {before after : List ℕ} {at end : ℕ} {made : Result (Unit {0}) Refusal}
+    → method ≡ method_of number → number < 4 → LineMade (method_number method) l before at made end after
+    → LineMade number l before at made end after
+line_of_number {number} {method} {l} {before} {after} {at} {end} {made} same small line =
+    subst (λ (which : ℕ). LineMade which l before at made end after) (ap method_number same ∙ number_kept number small) line

@@ -2,7 +2,7 @@
 --     answer_room        what a search leaves has room for the places of its shortlist
 --     line_made          a search with its line
 -- Assumes nothing.
-use mathlib.Core.Path.{◌≡◌, ◌∙◌}
+use mathlib.Core.Path.{◌≡◌, refl, ◌∙◌}
 use mathlib.Core.List.{List}
 use Prim.Native.Nat.{ℕ, ◌+◌, ◌≤◌}
 use native.Mathlib.Omega.{arith}
@@ -17,7 +17,11 @@ use Rattle.answering.specs.Answered.{Searched}
 use Rattle.answering.specs.Promises.{accepted_call}
 use Rattle.fields.specs.Appending.{appended_is}
 use Rattle.listing.specs.Clauses.{places_at}
-use Rattle.lines.specs.declared.Line.{Line}
+use Rattle.std.specs.Prelude.{Result, Ok, Err}
+use Rattle.poses.specs.declared.refusals.Refusal.{Refusal}
+use Rattle.poses.specs.Refusals.{value_of}
+use Rattle.meeting.specs.declared.Found.{Found}
+use Rattle.answers.specs.Clauses.{answer_of}
 use Rattle.running.specs.Clauses.{search_at}
 use Rattle.wording.specs.Clauses.{line_room, AnswerRoom, AnswerWritten}
 use Rattle.lines.specs.Clauses.{LineMade}
@@ -43,8 +47,18 @@ module _ {r : Poses → Query → Search} {l : Lent} {a : Answer} {picks lows hi
         room = room;
       }
 
-pub line_made : (which : ℕ) {l : Lent} {a : Answer} {picks lows highs tally work before after : List ℕ} {at : ℕ} (made : Line)
-    → Searched (search_at which) l a picks lows highs tally work → made.number ≡ a.number
-    → AnswerWritten which a (places_at picks lows highs l.k) before at after made.end → LineMade which l before at made after
-line_made which made x number w =
-    record { number_is = number ∙ number_told x; appended = appended_is (answer_text_is_line which x) w.appended; short = w.short }
+-- the number of what a call gives back is its answer's
+number_given : (r : Result Found Refusal) → (value_of r).number ≡ (answer_of r).number
+number_given (Ok f) = refl
+number_given (Err e) = refl
+
+pub line_made : (which : ℕ) {l : Lent} (r : Result Found Refusal) {made : Result (Unit {0}) Refusal} {picks lows highs tally work before after : List ℕ}
+    {at end : ℕ}
+    → Searched (search_at which) l (answer_of r) picks lows highs tally work → (value_of made).number ≡ (value_of r).number
+    → AnswerWritten which (answer_of r) (places_at picks lows highs l.k) before at after end → LineMade which l before at made end after
+line_made which r x number w =
+    record {
+      number_is = number ∙ number_given r ∙ number_told x;
+      appended = appended_is (answer_text_is_line which x) w.appended;
+      short = w.short;
+    }

@@ -11,7 +11,9 @@ use Rattle.model.specs.Program.{refused_line, search_line, printing}
 use Rattle.running.specs.Clauses.{search_at}
 use Rattle.fields.specs.Clauses.{Appended}
 use Rattle.wording.specs.Clauses.{name_at, line_room}
-use Rattle.lines.specs.declared.Line.{Line}
+use Rattle.std.specs.Prelude.{Result}
+use Rattle.poses.specs.declared.refusals.Refusal.{Refusal}
+use Rattle.poses.specs.Refusals.{value_of}
 
 -- a text, or where there is a refusal its line
 unfoldable pub line_or : Verdict → List ℕ → List ℕ
@@ -27,11 +29,11 @@ unfoldable pub lines_to : ℕ → Lent → List ℕ
 lines_to zero l = []
 lines_to (suc which) l = lines_to which l ++ search_line (name_at which) (search_at which) l
 
--- The line of a search over what is lent stands in the slice from a place on; with its end goes the number of its refusal, or 0
-pub record LineMade (which : ℕ) (l : Lent) (before : List ℕ) (at : ℕ) (made : Line) (after : List ℕ) : Type 0 where
-  pub number_is : made.number ≡ (told (search_verdict l)).number
-  pub appended : Appended (one_line which l) before at after made.end
-  pub short : made.end ≤ at + line_room
+-- The line of a search over what is lent stands in the slice from a place on, or that of its refusal, which goes with it
+pub record LineMade (which : ℕ) (l : Lent) (before : List ℕ) (at : ℕ) (made : Result (Unit {0}) Refusal) (end : ℕ) (after : List ℕ) : Type 0 where
+  pub number_is : (value_of made).number ≡ (told (search_verdict l)).number
+  pub appended : Appended (one_line which l) before at after end
+  pub short : end ≤ at + line_room
 
 -- The text of the searches over what is lent, refused or not, stands at the start of the slice
 abbrev pub Lines : Lent → List ℕ → ℕ → List ℕ → Type 0

@@ -1,7 +1,7 @@
 -- List by list: what is known once i lists have passed, and one list more.
 --     RowsNoted          after i lists: no refusal so far, and their rows of the work slice are noted
 --     rows_start, rows_go_on         with no list; past one more
---     list_accepted      an answer of number 0 accepts the list
+--     list_accepted      told as accepted, the list passes
 --     rows_stop, rows_done       what `walk_lists` promises, from the refusal of a list and from all lists passed
 -- Assumes nothing.
 use mathlib.Core.Path.{◌≡◌, refl, sym, ap, ◌∙◌}
@@ -17,9 +17,10 @@ use Rattle.model.specs.Given.{Poses, place}
 use Rattle.model.specs.Refusals.{accepted, refused, first_refusal, in_list, in_lists}
 use Rattle.model.specs.Answers.{Told, told, places}
 use Rattle.laws.specs.Lists.{row_length, table_length, table_room, over_beyond, over_more}
-use Rattle.laws.specs.Verdicts.{accepted≢refused, by_verdict, first_refusal_at, numbered_list, told_zero}
-use Rattle.entries.specs.declared.Checked.{Checked}
-use Rattle.entries.specs.Clauses.{value_of}
+use Rattle.laws.specs.Verdicts.{accepted≢refused, first_refusal_at, numbered_list, told_zero}
+use Rattle.std.specs.Prelude.{Ok, Err}
+use Rattle.poses.specs.declared.refusals.Refusal.{Refusal}
+use Rattle.poses.specs.Refusals.{told_of, refused_as}
 use Rattle.lists.specs.Clauses.{ListsNoted}
 
 drop_further : (x y : List ℕ) (e c : ℕ) → drop e x ≡ drop e y → e ≤ c → drop c x ≡ drop c y
@@ -53,35 +54,34 @@ module _ (s : Poses) (lent : List ℕ) where
         }
 
     -- the refusal of list i is the answer; what its row was left at lies within the first m x n entries
-    pub rows_stop : (own : List ℕ) {r : Checked} → i < s.m → value_of r ≡ told (in_list s i) → (r.number ≡ 0 → ⊥)
+    pub rows_stop : (own : List ℕ) (e : Refusal) → i < s.m → told_of e ≡ told (in_list s i)
         → length own ≡ s.n → s.m * s.n ≤ length work
-        → ListsNoted s lent r (put_mid (i * s.n) (i * s.n + s.n - i * s.n) work own)
+        → ListsNoted s lent (Err e) (put_mid (i * s.n) (i * s.n + s.n - i * s.n) work own)
     unfolding in_lists
-    rows_stop own h says bad long room =
+    rows_stop own e h says long room =
         let reach = table_room i s.m s.n h in
         let size = table_length (λ j d. place s j d + 1) s.n i in
         let beyond : drop (s.m * s.n) (put_mid (i * s.n) (i * s.n + s.n - i * s.n) work own) ≡ drop (s.m * s.n) lent =
         drop_further (put_mid (i * s.n) (i * s.n + s.n - i * s.n) work own) work (i * s.n + s.n) (s.m * s.n)
         (drop_put (i * s.n) (i * s.n + s.n) work own (omega arith) (omega arith) (omega arith)) reach
         ∙ rw w.rows_are (over_beyond (table (λ j d. place s j d + 1) s.n i) lent (s.m * s.n) (omega arith)) in
-        by_verdict (in_list s i)
-        (λ (passes : in_list s i ≡ accepted). absurd (bad (ap (λ (t : Told). t.number) (says ∙ ap told passes))))
-        (λ x j p (stops : in_list s i ≡ refused x j p).
-        let all : in_lists s ≡ refused x j p = first_refusal_at (in_list s) s.m i w.none_refused stops h in
+        let stops = refused_as e (in_list s i) says in
+        let all : in_lists s ≡ refused (told_of e).number (told_of e).list (told_of e).position =
+        first_refusal_at (in_list s) s.m i w.none_refused stops h in
         record {
-          answers = says ∙ ap told (stops ∙ sym all);
+          answers = ap told (sym all);
           notes = λ passes. absurd (accepted≢refused (sym passes ∙ all));
           beyond = beyond;
-        })
+        }
 
-  pub list_accepted : (i : ℕ) {r : Checked} → value_of r ≡ told (in_list s i) → r.number ≡ 0 → in_list s i ≡ accepted
-  list_accepted i says none = told_zero (in_list s i) (numbered_list s i) (sym (ap (λ (t : Told). t.number) says) ∙ none)
+  pub list_accepted : (i : ℕ) → told accepted ≡ told (in_list s i) → in_list s i ≡ accepted
+  list_accepted i says = told_zero (in_list s i) (numbered_list s i) (sym (ap (λ (t : Told). t.number) says))
 
-  pub rows_done : {work : List ℕ} {r : Checked} → RowsNoted work s.m → value_of r ≡ told accepted → ListsNoted s lent r work
+  pub rows_done : {work : List ℕ} → RowsNoted work s.m → ListsNoted s lent (Ok tt) work
   unfolding in_lists places
-  rows_done w says =
+  rows_done w =
       record {
-        answers = says ∙ ap told (sym w.none_refused);
+        answers = ap told (sym w.none_refused);
         notes = λ _. w.rows_are;
         beyond = rw w.rows_are
             (over_beyond (table (λ j d. place s j d + 1) s.n s.m) lent (s.m * s.n)

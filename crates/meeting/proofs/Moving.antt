@@ -4,9 +4,9 @@
 --     Moving                 what holds while entries are moved
 --     moving_starts, moving_goes_on, moving_ends     none is moved; one more is; x is put at the seat
 -- Assumes nothing.
-use mathlib.Core.Path.{◌≡◌, refl, sym, ◌∙◌}
+use mathlib.Core.Path.{◌≡◌, refl, sym, ap, ◌∙◌}
 use mathlib.Core.List.{List, ◌∷◌, ◌++◌, append_assoc}
-use Prim.Native.Nat.{ℕ, suc, ◌-◌, ◌≤◌, ◌<◌}
+use Prim.Native.Nat.{ℕ, suc, ◌+◌, ◌-◌, ◌≤◌, ◌<◌}
 use native.Mathlib.Omega.{arith}
 use lib.ListN.{length, get_or, set, take, drop, length-set, take-append-drop, get_or-append}
 use lib.Seq.{take-suc, drop-cons, set_at, get_or-take, length-take-le}
@@ -53,18 +53,20 @@ moving_starts l seat last h inside =
     }
 
 module _ {l list : List ℕ} {seat last j : ℕ} (w : Moving l seat last list j) where
-  pub moving_goes_on : seat < j → Moving l seat last (set list j (get_or list (j - 1) 0)) (j - 1)
+  pub moving_goes_on : seat < j → Moving l seat last (set list (j - 1 + 1) (get_or list (j - 1) 0)) (j - 1)
   moving_goes_on h =
-      let next : suc (j - 1) ≡ j = omega arith in
+      let back : j ≡ suc (j - 1) = omega arith in
+      let was : list ≡ moved (suc (j - 1)) last l = w.is_moved ∙ ap (λ (i : ℕ). moved i last l) back in
+      let next : j - 1 + 1 ≡ suc (j - 1) = omega arith in
       record {
         above_seat = omega arith;
         below_last = omega (arith, w.below_last);
         last_within = w.last_within;
-        as_long = length-set list j (get_or list (j - 1) 0) ∙ w.as_long;
-        is_moved = rw w.is_moved (rw next at (moved_goes_on (j - 1) last l (omega (arith, w.below_last)) w.last_within));
+        as_long = length-set list (j - 1 + 1) (get_or list (j - 1) 0) ∙ w.as_long;
+        is_moved = rw (next, was) (moved_goes_on (j - 1) last l (omega (arith, w.below_last)) w.last_within);
       }
 
-  pub moving_ends : (x : ℕ) → j ≤ seat → set list j x ≡ slid seat last x l
+  pub moving_ends : (x : ℕ) → j ≤ seat → set list seat x ≡ slid seat last x l
   unfolding moved slid
   moving_ends x h =
       let there : j ≡ seat = omega (arith, w.above_seat) in

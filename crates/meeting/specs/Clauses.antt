@@ -1,5 +1,8 @@
 -- The records that the contracts of the searches cite.
 --     query_with            a query of a rule and decoded weights
+--     View, view, view_of     what scores and bounds are read from; of what a search reads
+--     query_of              the query of what a search reads
+--     bound_of               an item's low or high, as far as the first positions of each list tell it
 --     Readable             all that a search may read once its tests are passed
 --     Room                 k is one of 1 to n, and the lent slices are long enough
 --     Shown, Ran           the shortlist's slices; what the run of any search promises of the four slices that it writes
@@ -15,10 +18,16 @@ use Rattle.model.specs.Given.{Poses, Query, joined}
 use Rattle.model.specs.Accesses.{tally}
 use Rattle.model.specs.Searches.{Search, kept}
 use Rattle.laws.specs.Accepted.{Valid, Placed}
+use Rattle.poses.specs.Rules.{rule_number}
+use Rattle.meeting.specs.declared.Reading.{Reading}
 
 -- a query of a rule and of weights that stand list by list
 abbrev pub query_with : ℕ → List ℕ → Query
 query_with rule weights = record { rule = rule; weight = λ i. get_or weights i 0 }
+
+-- the query of what a search reads
+abbrev pub query_of : Reading → Query
+query_of r = query_with (rule_number r.rule) r.weights.now
 
 -- Once the tests are passed: the lists are valid, the work slice holds the positions, weights and scores are small
 pub record Readable (s : Poses) (q : Query) (work : List ℕ) : Type 0 where
@@ -68,6 +77,27 @@ pub record Located (m n d depth : ℕ) (scores work : List ℕ) : Type 0 where
   pub work_long : m * n ≤ length work
   pub place_least : (i : ℕ) → i < m → 1 ≤ get_or work (i * n + d) 0
   pub place_most : (i : ℕ) → i < m → get_or work (i * n + d) 0 ≤ n
+
+-- What the bounds are read from: m lists of n entries, the rule and the weights, the scores and the work slice's positions
+pub record View : Type 0 where
+  pub m : ℕ
+  pub n : ℕ
+  pub rule : ℕ
+  pub weights : List ℕ
+  pub scores : List ℕ
+  pub work : List ℕ
+
+abbrev pub view : ℕ → ℕ → ℕ → List ℕ → List ℕ → List ℕ → View
+view m n rule weights scores work = record { m = m; n = n; rule = rule; weights = weights; scores = scores; work = work }
+
+-- item d's low after p rows, or its high
+unfoldable pub bound_of : View → Bool → ℕ → ℕ → ℕ
+bound_of v high p d =
+    joined v.rule (λ i. read_at v.n v.scores v.work d p (unread high v.n v.scores p) i * get_or v.weights i 0) v.m
+
+-- what a search reads, as scores and bounds are read from it
+abbrev pub view_of : Reading → View
+view_of r = view r.set.lists r.set.poses (rule_number r.rule) r.weights.now r.set.scores.now r.places.now
 
 -- No weight and no score is too large
 pub record Small (weights scores : List ℕ) : Type 0 where

@@ -7,19 +7,7 @@ ghost use Rattle.meeting.specs.Clauses.{ahead_of, Seated};
 fn ahead(d: u16, low: u32, high: u32, e: u16, lo: u32, hi: u32) -> bool
     ensures { result ≡ ahead_of d low high e lo hi }
 {
-    if lo < low {
-        return true;
-    }
-    if low < lo {
-        return false;
-    }
-    if hi < high {
-        return true;
-    }
-    if high < hi {
-        return false;
-    }
-    d < e
+    lo < low || low == lo && (hi < high || high == hi && d < e)
 }
 
 // Where item d belongs among the first `filled`: behind the last that it does not stand before. Most
@@ -37,14 +25,10 @@ pub fn seat(
         × (filled ≤ length highs.now) }
     ensures { Seated d low high filled picks.now lows.now highs.now result }
 {
-    let mut j = filled;
-    while 0 < j {
-        let at = j - 1;
-        if ahead(d, low, high, picks[at], lows[at], highs[at]) {
-            j = at;
-        } else {
-            return j;
+    for j in (0..filled).rev() {
+        if !ahead(d, low, high, picks[j], lows[j], highs[j]) {
+            return j + 1;
         }
     }
-    j
+    0
 }

@@ -1,20 +1,16 @@
-// The shortlist in its two slices: items, and their scores, by score falling, then item rising.
-ghost use Rattle.meeting.specs.Shortlist.{Keeps, Inserted};
+// The shortlist while items are met.
+ghost use Rattle.meeting.specs.Shortlist.{Keeps};
 
-use meeting::{seats, sliding};
-
-// Item d of score x into the first k, and how many there are then. Its score is both
-// its low and its high. Seat k means that it is not kept.
-pub fn keep(d: u16, x: u32, k: usize, filled: usize, picks: &mut [u16], lows: &mut [u32]) -> usize
-    requires { Keeps k filled picks.old lows.old lows.old }
-    ensures { Inserted d x x k filled picks.old lows.old lows.old result
-        picks.new lows.new lows.new }
-{
-    let at = seats::seat(d, x, x, filled, picks, lows, lows);
-    if at == k {
-        return filled;
-    }
-    let last = sliding::last_place(filled, k);
-    sliding::slide_places(picks, lows, at, last, d, x);
-    last + 1
+/// The best of the items met so far, by score falling, then item rising: at most `count` of them, in the slices
+/// that are lent.
+#[derive(Drop)]
+pub struct Shortlist<'a> {
+    /// How many places it has.
+    pub count: usize,
+    /// How many items it holds, in its first places.
+    pub filled: usize,
+    pub picks: &'a mut [u16],
+    /// The items' scores, which are both their lows and their highs.
+    pub lows: &'a mut [u32],
+    pub ghost keeps: { Keeps count filled picks.now lows.now lows.now },
 }

@@ -2,55 +2,45 @@
 ghost use Rattle.std.specs.Prelude.{◌≡◌};
 ghost use Rattle.noting.specs.Clauses.{Visitable, visited_once, Walkable, walked_to, Advancing, Advanced};
 
-use entries::wide;
+use meeting::Reading;
+use poses::PoseSet;
 
-// One visit of item d's position in every list. The work slice has the positions, from one.
-pub fn visit(d: usize, m: usize, n: usize, tally: &mut [u8], work: &[u16])
-    requires { Visitable d m n tally.old work.now }
-    ensures { tally.new ≡ visited_once d m n work.now tally.old }
+/// One visit of item d's position in every list.
+#[tactic(auto, using(crate::proofs::Visiting::visiting_starts, crate::proofs::Visiting::visiting_goes_on, crate::proofs::Visiting::count_before), unfolding(crate::specs::Clauses::visited_once))]
+pub fn visit(d: usize, reading: Reading, tally: &mut [u8])
+    requires { Visitable d reading.set.lists reading.set.poses tally.old reading.places.now }
+    ensures { tally.new ≡ visited_once d reading.entry.set.lists reading.entry.set.poses
+        reading.entry.places.now tally.old }
 {
-    let mut i = 0;
-    while i < m {
-        let base = i * n;
-        let at = base + d;
-        let place = wide(work[at]);
-        let end = base + place;
-        let seen = end - 1;
-        tally[seen] = tally[seen] + 1;
-        i += 1;
+    for i in 0..reading.set.lists {
+        let base = i * reading.set.poses;
+        let place = usize::from(reading.places[base + d]);
+        tally[base + place - 1] += 1;
     }
 }
 
-// The first position of list i, from `from` on, that was not visited; n where there is none. All before
-// `from` were, so nothing is searched from the front again.
+/// The first position of list i, from `from` on, that was not visited; `set.poses` where there is none. All
+/// before `from` were, so nothing is searched from the front again.
 #[tactic(auto, using(crate::proofs::Visiting::walked_is))]
-pub fn walk_on(i: usize, m: usize, n: usize, from: usize, tally: &[u8]) -> usize
-    requires { Walkable i m n from tally.now }
-    ensures { result ≡ walked_to i n tally.now }
+pub fn walk_on(i: usize, set: PoseSet, from: usize, tally: &[u8]) -> usize
+    requires { Walkable i set.lists set.poses from tally.now }
+    ensures { result ≡ walked_to i set.entry.poses tally.now }
 {
-    let base = i * n;
-    let mut b = from;
-    while b < n {
-        let at = base + b;
-        if tally[at] == 0 {
+    let base = i * set.poses;
+    for b in from..set.poses {
+        if tally[base + b] == 0 {
             return b;
         }
-        b += 1;
     }
-    b
+    set.poses
 }
 
-// The best position of each list, walked to from a position up to which all are visited.
-pub fn advance(m: usize, n: usize, best: [usize; 8], tally: &[u8]) -> [usize; 8]
-    requires { Advancing m n best tally.now }
-    ensures { Advanced m n tally.now result }
+/// Takes a position of each list, up to which all are visited, on to the list's best position.
+pub fn advance(set: PoseSet, best: &mut [usize; 8], tally: &[u8])
+    requires { Advancing set.lists set.poses best.old tally.now }
+    ensures { Advanced set.entry.lists set.entry.poses tally.now best.new }
 {
-    let mut next = best;
-    let mut i = 0;
-    while i < m {
-        let from = next[i];
-        next[i] = walk_on(i, m, n, from, tally);
-        i += 1;
+    for i in 0..set.lists {
+        best[i] = walk_on(i, set, best[i], tally);
     }
-    next
 }

@@ -1,5 +1,4 @@
 -- List by list: what is known once the sweeps have passed i lists, and one list more.
---     part_at                    an entry of a part of a slice
 --     own                        a list's own part of a slice, which the sweeps are lent
 --     own_rises                   whether its numbers rise
 --     own_length, own_at         its length; its entries
@@ -34,7 +33,7 @@ noted_alike f g zero d same = refl
 noted_alike f g (suc p) d same = rw (same p (omega arith), noted_alike f g p d (λ q l. same q (omega arith)))
 
 -- an entry of a part of a slice
-pub part_at : (from to q : ℕ) (l : List ℕ) → q < to - from → get_or (mid_of from (to - from) l) q 0 ≡ get_or l (from + q) 0
+part_at : (from to q : ℕ) (l : List ℕ) → q < to - from → get_or (mid_of from (to - from) l) q 0 ≡ get_or l (from + q) 0
 part_at from to q l h = rw (get_or-take, get_or-drop)
 
 -- a list's own part of a slice

@@ -1,19 +1,18 @@
 -- All lists at once: where no entry is n or more, no score rises and no place is left empty, all lists pass.
---     front                  the first entries of a slice, which a sweep is lent
 --     all_small              where the greatest is below n, each entry is an item
 --     all_pass               what `note_whole` promises where it answers true
 --     not_great, not_rising, not_empty       where all lists pass, no sweep finds anything
 -- Assumes nothing.
-use mathlib.Core.Path.{◌≡◌, refl, sym, ap, ◌∙◌}
+use mathlib.Core.Path.{◌≡◌, refl, sym, ◌∙◌}
 use mathlib.Core.Bool.{true, false}
 use mathlib.Core.List.{List}
 use Prim.Native.Nat.{ℕ, zero, suc, ◌+◌, ◌-◌, ◌*◌, ◌≤◌, ◌<◌}
 use native.Mathlib.Numerals.{sub-one}
 use native.Mathlib.Omega.{arith}
 use lib.Dec.{eqb, ltb}
-use lib.ListN.{length, get_or}
+use lib.ListN.{length, get_or, take}
+use lib.Seq.{length-take-le, get_or-take}
 use borrow.Author.Tests.{eqb-true, ltb-true, ltb-false, lt-leb, lt-ltb, le-ltb}
-use borrow.Rule.Slice.PartMut.{mid_of, mid_len}
 use Rattle.model.specs.Words.{some_below, table}
 use Rattle.model.specs.Given.{Poses, item, score, place}
 use Rattle.model.specs.Refusals.{accepted, not_item, stood_earlier, rises, standing, fault, in_list, in_lists}
@@ -25,7 +24,6 @@ use Rattle.laws.specs.Marks.{noted, all_noted}
 use Rattle.laws.specs.Accepted.{passed, noted_place, falls_by_one}
 use Rattle.sweeps.specs.Clauses.{Greatest}
 use Rattle.passing.specs.Clauses.{Rising, Swept}
-use Rattle.passing.proofs.Rows.{part_at}
 
 -- no score is above the one before it
 never_rises : (s : Poses) (i : ℕ) → ((p : ℕ) → suc p < s.n → score s i (suc p) ≤ score s i p) → (p : ℕ) → p < s.n
@@ -45,19 +43,9 @@ passes s i small falls every =
     first_refusal_all (fault s i) s.n
     (λ p l. rw (lt-leb s.n (item s i p) (small p l), distinct.new p l, never_rises s i falls p l))
 
--- the first entries of a slice
-abbrev pub front : ℕ → List ℕ → List ℕ
-front size l = mid_of 0 (size - 0) l
-
-front_length : (size : ℕ) (l : List ℕ) → size ≤ length l → length (front size l) ≡ size
-front_length size l reach = mid_len 0 size l reach ∙ omega arith
-
-front_at : (size q : ℕ) (l : List ℕ) → q < size → get_or (front size l) q 0 ≡ get_or l q 0
-front_at size q l h = part_at 0 size q l (omega arith) ∙ ap (λ (j : ℕ). get_or l j 0) (omega arith)
-
 module _ (s : Poses) where
   -- where the greatest is below n, each entry is an item
-  pub all_small : {most : ℕ} → s.m * s.n ≤ length s.items → Greatest (front (s.m * s.n) s.items) most → most < s.n
+  pub all_small : {most : ℕ} → s.m * s.n ≤ length s.items → Greatest (take (s.m * s.n) s.items) most → most < s.n
       → (i p : ℕ) → i < s.m → p < s.n → item s i p < s.n
   unfolding item
   all_small {most} long found below i p hi hp =
@@ -65,9 +53,9 @@ module _ (s : Poses) where
       let here : i * s.n + p < size = omega (arith, table_room i s.m s.n hi) in
       let none = sym (found.above most) ∙ le-ltb most most (omega arith) in
       let not_above =
-      some_not (λ q. ltb most (get_or (front size s.items) q 0)) (length (front size s.items)) (i * s.n + p) none
-      (rw (front_length size s.items long) here) in
-      omega (arith, ltb-false most (get_or s.items (i * s.n + p) 0) (rw (front_at size (i * s.n + p) s.items here) at not_above))
+      some_not (λ q. ltb most (get_or (take size s.items) q 0)) (length (take size s.items)) (i * s.n + p) none
+      (rw (length-take-le size s.items long) here) in
+      omega (arith, ltb-false most (get_or s.items (i * s.n + p) 0) (rw (get_or-take size s.items (i * s.n + p) 0 here) at not_above))
 
   pub all_pass : {after : List ℕ} → ((i p : ℕ) → i < s.m → p < s.n → item s i p < s.n) → Swept s after
       → some_below (λ q. eqb (get_or after q 0) 0) (length after) ≡ false → (in_lists s ≡ accepted) × (after ≡ places s)
@@ -91,22 +79,22 @@ module _ (s : Poses) where
     unfolding in_lists
     each_passes i hi = first_refusal_none (in_list s) s.m i all hi
 
-    pub not_great : {most : ℕ} → 1 ≤ s.n → s.m * s.n ≤ length s.items → Greatest (front (s.m * s.n) s.items) most
+    pub not_great : {most : ℕ} → 1 ≤ s.n → s.m * s.n ≤ length s.items → Greatest (take (s.m * s.n) s.items) most
         → s.n ≤ most → ⊥
     unfolding item
     not_great {most} some long found great =
         let size = s.m * s.n in
         let bar = s.n - 1 in
-        let there = some_found (λ q. ltb bar (get_or (front size s.items) q 0)) (length (front size s.items))
+        let there = some_found (λ q. ltb bar (get_or (take size s.items) q 0)) (length (take size s.items))
         (sym (found.above bar) ∙ lt-ltb bar most (omega arith)) in
         let q = there.0 in
-        let inside : q < size = omega (arith, there.1, front_length size s.items long) in
+        let inside : q < size = omega (arith, there.1, length-take-le size s.items long) in
         let where_it_is = place_of s.n s.m q inside in
         let i = where_it_is.0 in
         let p = where_it_is.1 in
         let at : q ≡ i * s.n + p = where_it_is.4 in
         let above : bar < get_or s.items q 0 =
-        rw (front_at size q s.items inside) at (ltb-true bar (get_or (front size s.items) q 0) there.2) in
+        rw (get_or-take size s.items q 0 inside) at (ltb-true bar (get_or (take size s.items) q 0) there.2) in
         omega (arith, rw at at above, (passed s i p (each_passes i where_it_is.2) where_it_is.3).is_item)
 
     pub not_rising : Rising s → ⊥

@@ -1,3 +1,5 @@
--- The searches with the shortlist as rows.
---     Promises       what a search into rows promises to whoever calls it
+-- The searches into rows.
+--     Clauses        the records that the functions' contracts cite
+--     Promises       what they promise to whoever calls them
+pub mod Clauses
 pub mod Promises

@@ -18,7 +18,7 @@ use Rattle.answering.specs.Answered.{Searched}
 use Rattle.answering.specs.Promises.{answer_one_to_one}
 use Rattle.placing.specs.declared.Place.{Place}
 use Rattle.placing.specs.Rows.{onto}
-use Rattle.columns.specs.Clauses.{row_of, lent_rows, SearchedRows}
+use Rattle.places.specs.Clauses.{row_of, lent_rows, SearchedRows}
 
 -- The results of two calls
 pub record SameRows (a b : Answer) (rows : List Place) (tally work : List ℕ) (rows' : List Place) (tally' work' : List ℕ) : Type 0 where

@@ -1,178 +1,154 @@
-// The searches again, with the shortlist as rows: item, low and high of a place together.
+//! The searches again, with the shortlist as rows: item, low and high of a place together.
 #![tactic(auto)]
 
+ghost use Rattle.std.specs.Prelude.{◌≡◌, length, take};
 ghost use Rattle.model.specs.Searches.{TA, BPA, BPA2, NRA};
+ghost use Rattle.admission.specs.Clauses.{lent_with};
+ghost use Rattle.answering.specs.Answered.{Searched};
+ghost use Rattle.placing.specs.Counts.{lesser_of};
+ghost use Rattle.poses.specs.Methods.{method_number};
 ghost use Rattle.running.specs.Clauses.{search_at};
-ghost use Rattle.columns.specs.Clauses.{lent_rows, SearchedRows};
+ghost use Rattle.answers.specs.Clauses.{answer_of};
+ghost use Rattle.places.specs.Clauses.{lent_rows, SearchedRows};
 
-use answers::Answer;
-use columns::search_columns;
+use meeting::Found;
+use placing::Columns;
 pub use placing::Place;
-use placing::fill;
+use poses::methods::Method;
+use poses::refusals::Refusal;
+use poses::{PoseSet, Query};
 
-// A search whose shortlist goes into lent rows.
+// So many places are lent to a search: as many as there are rows, and 1,024 at most.
+fn lesser(rows: usize) -> usize
+    ensures { result ≡ lesser_of rows }
+{
+    rows.min(1024)
+}
+
+// A search into the first places of longer columns, as many as there are rows: its own test tells whether they are
+// enough. The columns come one by one, since no part of a lent struct's field can be lent on.
+fn search_within(
+    method: Method,
+    set: PoseSet,
+    query: Query,
+    rows: usize,
+    picks: &mut [u16],
+    lows: &mut [u32],
+    highs: &mut [u32],
+    tally: &mut [u8],
+    work: &mut [u16],
+) -> Result<Found, Refusal>
+    requires { (length picks.old ≡ 1024) × (length lows.old ≡ 1024) × (length highs.old ≡ 1024) }
+    ensures { Searched (search_at (method_number method)) (lent_with set.entry.lists set.entry.poses
+        query.entry.rule query.entry.count query.entry.weights.now set.entry.items.now
+        set.entry.scores.now (take (lesser_of rows) picks.old) (take (lesser_of rows) lows.old)
+        (take (lesser_of rows) highs.old) tally.old work.old) (answer_of result)
+        (take (lesser_of rows) picks.new) (take (lesser_of rows) lows.new)
+        (take (lesser_of rows) highs.new) tally.new work.new }
+{
+    let part = lesser(rows);
+    answering::searched(
+        method,
+        set,
+        query,
+        &mut picks[..part],
+        &mut lows[..part],
+        &mut highs[..part],
+        tally,
+        work,
+    )
+}
+
+/// The search of a name, its shortlist written into lent rows. Refused, the rows stay as lent, and beyond the
+/// shortlist they do so too.
 pub fn search_rows(
-    which: u8,
-    m: usize,
-    n: usize,
-    items: &[u16],
-    scores: &[u16],
-    rule: u8,
-    k: usize,
-    weights: &[u8],
+    method: Method,
+    set: PoseSet,
+    query: Query,
     rows: &mut [Place],
     tally: &mut [u8],
     work: &mut [u16],
-) -> Answer
-    ensures { SearchedRows (search_at which)
-        (lent_rows m n rule k weights.now items.now scores.now
-        rows.old tally.old work.old) result rows.old rows.new
-        tally.new work.new }
+) -> Result<Found, Refusal>
+    ensures { SearchedRows (search_at (method_number method)) (lent_rows set.entry.lists set.entry.poses query.entry.rule
+        query.entry.count query.entry.weights.now set.entry.items.now set.entry.scores.now rows.old
+        tally.old work.old) (answer_of result) rows.old rows.new tally.new work.new }
 {
-    let kept = search_columns(
-        which,
-        m,
-        n,
-        items,
-        scores,
-        rule,
-        k,
-        weights,
+    let mut columns = Columns {
+        picks: [0; 1024],
+        lows: [0; 1024],
+        highs: [0; 1024],
+    };
+    let found = search_within(
+        method,
+        set,
+        query,
         rows.len(),
+        &mut columns.picks,
+        &mut columns.lows,
+        &mut columns.highs,
         tally,
         work,
-    );
-    let picks = kept.picks;
-    let lows = kept.lows;
-    let highs = kept.highs;
-    fill(rows, &picks, &lows, &highs, kept.count);
-    kept.answer
+    )?;
+    columns.fill(rows, query.count);
+    Ok(found)
 }
 
-// The threshold algorithm, into rows.
+/// The threshold algorithm, into rows.
 pub fn ta_rows(
-    m: usize,
-    n: usize,
-    items: &[u16],
-    scores: &[u16],
-    rule: u8,
-    k: usize,
-    weights: &[u8],
+    set: PoseSet,
+    query: Query,
     rows: &mut [Place],
     tally: &mut [u8],
     work: &mut [u16],
-) -> Answer
-    ensures { SearchedRows TA (lent_rows m n rule k weights.now items.now
-        scores.now rows.old tally.old work.old) result
-        rows.old rows.new tally.new work.new }
+) -> Result<Found, Refusal>
+    ensures { SearchedRows TA (lent_rows set.entry.lists set.entry.poses query.entry.rule
+        query.entry.count query.entry.weights.now set.entry.items.now set.entry.scores.now rows.old
+        tally.old work.old) (answer_of result) rows.old rows.new tally.new work.new }
 {
-    search_rows(
-        running::TA,
-        m,
-        n,
-        items,
-        scores,
-        rule,
-        k,
-        weights,
-        rows,
-        tally,
-        work,
-    )
+    search_rows(Method::Ta, set, query, rows, tally, work)
 }
 
-// The best position algorithm, into rows.
+/// The best position algorithm, into rows.
 pub fn bpa_rows(
-    m: usize,
-    n: usize,
-    items: &[u16],
-    scores: &[u16],
-    rule: u8,
-    k: usize,
-    weights: &[u8],
+    set: PoseSet,
+    query: Query,
     rows: &mut [Place],
     tally: &mut [u8],
     work: &mut [u16],
-) -> Answer
-    ensures { SearchedRows BPA (lent_rows m n rule k weights.now items.now
-        scores.now rows.old tally.old work.old) result
-        rows.old rows.new tally.new work.new }
+) -> Result<Found, Refusal>
+    ensures { SearchedRows BPA (lent_rows set.entry.lists set.entry.poses query.entry.rule
+        query.entry.count query.entry.weights.now set.entry.items.now set.entry.scores.now rows.old
+        tally.old work.old) (answer_of result) rows.old rows.new tally.new work.new }
 {
-    search_rows(
-        running::BPA,
-        m,
-        n,
-        items,
-        scores,
-        rule,
-        k,
-        weights,
-        rows,
-        tally,
-        work,
-    )
+    search_rows(Method::Bpa, set, query, rows, tally, work)
 }
 
-// BPA2, into rows.
+/// BPA2, into rows.
 pub fn bpa2_rows(
-    m: usize,
-    n: usize,
-    items: &[u16],
-    scores: &[u16],
-    rule: u8,
-    k: usize,
-    weights: &[u8],
+    set: PoseSet,
+    query: Query,
     rows: &mut [Place],
     tally: &mut [u8],
     work: &mut [u16],
-) -> Answer
-    ensures { SearchedRows BPA2 (lent_rows m n rule k weights.now items.now
-        scores.now rows.old tally.old work.old) result
-        rows.old rows.new tally.new work.new }
+) -> Result<Found, Refusal>
+    ensures { SearchedRows BPA2 (lent_rows set.entry.lists set.entry.poses query.entry.rule
+        query.entry.count query.entry.weights.now set.entry.items.now set.entry.scores.now rows.old
+        tally.old work.old) (answer_of result) rows.old rows.new tally.new work.new }
 {
-    search_rows(
-        running::BPA2,
-        m,
-        n,
-        items,
-        scores,
-        rule,
-        k,
-        weights,
-        rows,
-        tally,
-        work,
-    )
+    search_rows(Method::Bpa2, set, query, rows, tally, work)
 }
 
-// NRA, into rows.
+/// NRA, into rows.
 pub fn nra_rows(
-    m: usize,
-    n: usize,
-    items: &[u16],
-    scores: &[u16],
-    rule: u8,
-    k: usize,
-    weights: &[u8],
+    set: PoseSet,
+    query: Query,
     rows: &mut [Place],
     tally: &mut [u8],
     work: &mut [u16],
-) -> Answer
-    ensures { SearchedRows NRA (lent_rows m n rule k weights.now items.now
-        scores.now rows.old tally.old work.old) result
-        rows.old rows.new tally.new work.new }
+) -> Result<Found, Refusal>
+    ensures { SearchedRows NRA (lent_rows set.entry.lists set.entry.poses query.entry.rule
+        query.entry.count query.entry.weights.now set.entry.items.now set.entry.scores.now rows.old
+        tally.old work.old) (answer_of result) rows.old rows.new tally.new work.new }
 {
-    search_rows(
-        running::NRA,
-        m,
-        n,
-        items,
-        scores,
-        rule,
-        k,
-        weights,
-        rows,
-        tally,
-        work,
-    )
+    search_rows(Method::Nra, set, query, rows, tally, work)
 }

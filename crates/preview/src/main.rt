@@ -2,6 +2,8 @@
 // searches find, or the first refusal, on standard output.
 #![tactic(auto)]
 
+use poses::Room;
+
 // The descriptors of standard input and output.
 const STDIN: i32 = 0;
 
@@ -20,16 +22,19 @@ fn main() {
     let mut highs = [0u32; 1024];
     let mut tally = [0u8; 8192];
     let mut work = [0u16; 8192];
+    let mut room = Room {
+        picks: &mut picks,
+        lows: &mut lows,
+        highs: &mut highs,
+        tally: &mut tally,
+        work: &mut work,
+    };
     let mut out = [0u8; 114884];
     let end = previewing::preview(
         &bytes[..taken],
         &mut items,
         &mut scores,
-        &mut picks,
-        &mut lows,
-        &mut highs,
-        &mut tally,
-        &mut work,
+        &mut room,
         &mut out,
     );
     io::write_all(STDOUT, &out[..end]);

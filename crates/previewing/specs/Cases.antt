@@ -1,6 +1,5 @@
 -- The text by cases, as the two reads tell them: a refused query, refused lists, and what the searches are lent.
 --     flat_query, flat_lists     a refusal of either record carries 0, 0
---     flat_line                  the line of such a refusal
 --     lists_roomy                in slices of 8,192 places a read of lists is never refused by 6
 --     query_refused              the text where the query is refused
 --     part_from, part_is_lists_of         a part of a slice to its end; the list record is what follows the query
@@ -21,6 +20,9 @@ use Rattle.model.specs.Program.{refused_line, lists_of, lent_by, program_verdict
 use Rattle.laws.specs.Verdicts.{by_verdict}
 use Rattle.laws.specs.Lists.{row_length}
 use Rattle.laws.specs.Accepted.{size_fits}
+use Rattle.std.specs.Prelude.{Ok, Err}
+use Rattle.poses.specs.declared.refusals.Refusal.{Refusal}
+use Rattle.poses.specs.Refusals.{told_of, refused_as}
 use Rattle.records.specs.declared.QueryRead.{QueryRead}
 use Rattle.records.specs.declared.ListsRead.{ListsRead}
 use Rattle.records.specs.Clauses.{value_of_query, QueryIsRead, value_of_lists, ListsAreRead}
@@ -40,7 +42,7 @@ flat_last : (x : ℕ) (b : Bool) → Flat (x when b)
 flat_last x true = (refl, refl)
 flat_last x false = (refl, refl)
 
-flat_query : (b : List ℕ) → Flat (query_head b)
+pub flat_query : (b : List ℕ) → Flat (query_head b)
 unfolding query_head
 flat_query b =
     flat_test 10 (ltb (length b) 9) (query_from_12 b)
@@ -48,7 +50,7 @@ flat_query b =
     (flat_test 13 (not (eqb (quad b 0) (query_says b))) (query_from_11 b)
     (flat_last 11 (ltb (length b - 4) (quad b 0)))))
 
-flat_lists : (b : List ℕ) → Flat (lists_head b)
+pub flat_lists : (b : List ℕ) → Flat (lists_head b)
 unfolding lists_head
 flat_lists b =
     flat_test 10 (ltb (length b) 8) (lists_from_11 b)
@@ -56,13 +58,6 @@ flat_lists b =
     (flat_test 12 (not (eqb (byte b 4) 1)) (lists_from_1 b)
     (flat_test 1 (wrong_size (lists_m b) (lists_n b)) (lists_from_13 b)
     (flat_last 13 (not (eqb (quad b 0) (lists_says b)))))))
-
--- a flat refusal's line
-flat_line : (v later : Verdict) (l : Lent) → Flat v → ((told v).number ≡ 0 → ⊥)
-    → printing (v then later) l ≡ refused_line (told v).number 0 0
-unfolding printing
-flat_line accepted later l h some = absurd (some refl)
-flat_line (refused x i p) later l h some = rw (h.0, h.1)
 
 -- ---- the query
 -- a part of a slice, from a place to its end, as the code's `&bytes[at..]` is told
@@ -72,37 +67,32 @@ part_from b at = take (length b - at) (drop at b)
 part_from_is_drop : (b : List ℕ) (at : ℕ) → part_from b at ≡ drop at b
 part_from_is_drop b at = take_all (length b - at) (drop at b) (rw length-drop (omega arith))
 
-module _ {b : List ℕ} {r : QueryRead} (x : QueryIsRead b r) where
-  query_number : r.number ≡ (told (query_head b)).number
-  unfolding read_query query_answer
-  query_number =
-      let same = ap (λ (v : QueryValue). v.number) x.answers in
-      by_verdict (query_head b) (λ e. same ∙ rw e) (λ y i p e. same ∙ rw e)
+-- the text where the query is refused
+pub query_refused : {b : List ℕ} {e : Refusal} → QueryIsRead b (Err e)
+    → printed b ≡ refused_line (told_of e).number (told_of e).list (told_of e).position
+unfolding printing program_verdict printed
+query_refused {b} {e} x = rw (refused_as e (query_head b) x.tells)
 
-  pub query_refused : (r.number ≡ 0 → ⊥) → printed b ≡ refused_line r.number 0 0
-  unfolding printed program_verdict
-  query_refused some =
-      flat_line (query_head b) (lists_head (lists_of b) then search_verdict (lent_by b)) (lent_by b) (flat_query b)
-      (λ none. some (query_number ∙ none))
-      ∙ ap (λ (n : ℕ). refused_line n 0 0) (sym query_number)
+module _ {b : List ℕ} {q : QueryRead} (x : QueryIsRead b (Ok q)) where
+  query_passes : query_head b ≡ accepted
+  query_passes = (query_zero x).0 refl
 
-  module _ (none : r.number ≡ 0) where
-    read_whole : value_of_query r ≡ query_answer accepted b
-    unfolding read_query
-    read_whole = x.answers ∙ ap (λ (v : Verdict). query_answer v b) ((query_zero x).0 none)
+  read_whole : value_of_query (Ok q) ≡ query_answer accepted b
+  unfolding read_query
+  read_whole = x.answers ∙ ap (λ (v : Verdict). query_answer v b) query_passes
 
-    rule_is : r.rule ≡ query_rule b
-    unfolding query_answer
-    rule_is = ap (λ (v : QueryValue). v.rule) read_whole
+  rule_is : q.rule ≡ query_rule b
+  unfolding query_answer
+  rule_is = ap (λ (v : QueryValue). v.rule) read_whole
 
-    k_is : r.k ≡ query_k b
-    unfolding query_answer
-    k_is = ap (λ (v : QueryValue). v.k) read_whole
+  k_is : q.k ≡ query_k b
+  unfolding query_answer
+  k_is = ap (λ (v : QueryValue). v.k) read_whole
 
-    -- the list record is what follows the query
-    pub part_is_lists_of : part_from b r.bytes ≡ lists_of b
-    unfolding query_answer lists_of
-    part_is_lists_of = part_from_is_drop b r.bytes ∙ ap (λ (v : QueryValue). drop v.bytes b) read_whole
+  -- the list record is what follows the query
+  pub part_is_lists_of : part_from b q.bytes ≡ lists_of b
+  unfolding query_answer lists_of
+  part_is_lists_of = part_from_is_drop b q.bytes ∙ ap (λ (v : QueryValue). drop v.bytes b) read_whole
 
 -- ---- the lists
 -- in slices of 8,192 places a read of lists is never refused by 6
@@ -121,93 +111,87 @@ row_taken : (f : ℕ → ℕ) (n : ℕ) (s : List ℕ) → take n (over (row f n
 unfolding over
 row_taken f n s = take_at (row f n) (drop (length (row f n)) s) n (row_length f n)
 
-module _ {b items scores i s : List ℕ} {r : ListsRead} (x : ListsAreRead b items scores r i s)
+module _ {b items scores i s : List ℕ} {t : ListsRead} (x : ListsAreRead b items scores (Ok t) i s)
     (many : length items ≡ 8192) (many' : length scores ≡ 8192) where
-  value_of_lists_is_answer : value_of_lists r ≡ lists_answer (lists_head b) b
+  value_of_lists_is_answer : value_of_lists (Ok t) ≡ lists_answer (lists_head b) b
   unfolding read_lists
   value_of_lists_is_answer = x.answers ∙ ap (λ (v : Verdict). lists_answer v b) (lists_roomy b items scores many many')
 
-  lists_number : r.number ≡ (told (lists_head b)).number
+  lists_pass : lists_head b ≡ accepted
+  lists_pass = sym (lists_roomy b items scores many many') ∙ (lists_zero x).0 refl
+
+  m_is : t.m ≡ lists_m b
   unfolding lists_answer
-  lists_number =
-      let same = ap (λ (v : ListsValue). v.number) value_of_lists_is_answer in
-      by_verdict (lists_head b) (λ e. same ∙ rw e) (λ y i p e. same ∙ rw e)
+  m_is = ap (λ (v : ListsValue). v.m) (value_of_lists_is_answer ∙ ap (λ (v : Verdict). lists_answer v b) lists_pass)
 
-  module _ (none : r.number ≡ 0) where
-    lists_pass : lists_head b ≡ accepted
-    lists_pass = sym (lists_roomy b items scores many many') ∙ (lists_zero x).0 none
+  n_is : t.n ≡ lists_n b
+  unfolding lists_answer
+  n_is = ap (λ (v : ListsValue). v.n) (value_of_lists_is_answer ∙ ap (λ (v : Verdict). lists_answer v b) lists_pass)
 
-    m_is : r.m ≡ lists_m b
-    unfolding lists_answer
-    m_is = ap (λ (v : ListsValue). v.m) (value_of_lists_is_answer ∙ ap (λ (v : Verdict). lists_answer v b) lists_pass)
+  pub size_is : t.m * t.n ≤ 8192
+  size_is = rw (m_is, n_is) (size_fits (lists_held b lists_pass).sizes)
 
-    n_is : r.n ≡ lists_n b
-    unfolding lists_answer
-    n_is = ap (λ (v : ListsValue). v.n) (value_of_lists_is_answer ∙ ap (λ (v : Verdict). lists_answer v b) lists_pass)
+  -- the entries that were read stand at the start of the slice, and no others are lent on
+  items_are : take (t.m * t.n) i ≡ row (entry_item b) (lists_m b * lists_n b)
+  unfolding items_after written
+  items_are =
+      rw (x.leaves_items, lists_roomy b items scores many many', lists_pass, m_is, n_is)
+      (row_taken (entry_item b) (lists_m b * lists_n b) items)
 
-    pub size_is : r.m * r.n ≤ 8192
-    size_is = rw (m_is, n_is) (size_fits (lists_held b lists_pass).sizes)
-
-    -- the entries that were read stand at the start of the slice, and no others are lent on
-    items_are : take (r.m * r.n) i ≡ row (entry_item b) (lists_m b * lists_n b)
-    unfolding items_after written
-    items_are =
-        rw (x.leaves_items, lists_roomy b items scores many many', lists_pass, m_is, n_is)
-        (row_taken (entry_item b) (lists_m b * lists_n b) items)
-
-    scores_are : take (r.m * r.n) s ≡ row (entry_score b) (lists_m b * lists_n b)
-    unfolding scores_after written
-    scores_are =
-        rw (x.leaves_scores, lists_roomy b items scores many many', lists_pass, m_is, n_is)
-        (row_taken (entry_score b) (lists_m b * lists_n b) scores)
+  scores_are : take (t.m * t.n) s ≡ row (entry_score b) (lists_m b * lists_n b)
+  unfolding scores_after written
+  scores_are =
+      rw (x.leaves_scores, lists_roomy b items scores many many', lists_pass, m_is, n_is)
+      (row_taken (entry_score b) (lists_m b * lists_n b) scores)
 
 -- ---- both
-module _ {b : List ℕ} {q : QueryRead} (x : QueryIsRead b q) (none : q.number ≡ 0)
-    {items scores i s : List ℕ} {r : ListsRead} (y : ListsAreRead (part_from b q.bytes) items scores r i s)
+module _ {b : List ℕ} {q : QueryRead} (x : QueryIsRead b (Ok q)) {items scores i s : List ℕ}
     (many : length items ≡ 8192) (many' : length scores ≡ 8192) where
-  -- the lists that were read are those that follow the query
-  lists_read : ListsAreRead (lists_of b) items scores r i s
-  lists_read = rw (part_is_lists_of x none) at y
+  -- the text where the lists that follow the query are refused
+  pub lists_refused : {e : Refusal} → ListsAreRead (part_from b q.bytes) items scores (Err e) i s
+      → printed b ≡ refused_line (told_of e).number (told_of e).list (told_of e).position
+  unfolding printing program_verdict printed
+  lists_refused {e} y =
+      let own = part_is_lists_of x in
+      let says : told_of e ≡ told (lists_head (lists_of b)) =
+      y.tells ∙ ap told (lists_roomy (part_from b q.bytes) items scores many many') ∙ ap (λ (l : List ℕ). told (lists_head l)) own in
+      rw (query_passes x, refused_as e (lists_head (lists_of b)) says)
 
-  pub lists_refused : (r.number ≡ 0 → ⊥) → printed b ≡ refused_line r.number 0 0
-  unfolding printed program_verdict
-  lists_refused some =
-      let told_by = lists_number lists_read many many' in
-      rw ((query_zero x).0 none)
-      (flat_line (lists_head (lists_of b)) (search_verdict (lent_by b)) (lent_by b) (flat_lists (lists_of b)) (λ z. some (told_by ∙ z))
-      ∙ ap (λ (n : ℕ). refused_line n 0 0) (sym told_by))
+  module _ {t : ListsRead} (y : ListsAreRead (part_from b q.bytes) items scores (Ok t) i s) where
+    -- the lists that were read are those that follow the query
+    lists_read : ListsAreRead (lists_of b) items scores (Ok t) i s
+    lists_read = rw (part_is_lists_of x) at y
 
-  module _ (none' : r.number ≡ 0) where
-    pub size_fit : r.m * r.n ≤ 8192
-    size_fit = size_is lists_read many many' none'
+    pub size_fit : t.m * t.n ≤ 8192
+    size_fit = size_is lists_read many many'
 
     passes_all : program_verdict b ≡ search_verdict (lent_by b)
     unfolding program_verdict
-    passes_all = rw ((query_zero x).0 none, lists_pass lists_read many many' none')
+    passes_all = rw (query_passes x, lists_pass lists_read many many')
 
     pub all_searched : (weights picks lows highs tally work : List ℕ)
         → weights ≡ part_of (chosen b (part_from b q.bytes)) b (part_from b q.bytes)
         → length picks ≡ 1024 → length lows ≡ 1024 → length highs ≡ 1024 → length tally ≡ 8192 → length work ≡ 8192
-        → let size = r.m * r.n in
-        let l = lent_with r.m r.n q.rule q.k weights (take size i) (take size s) picks lows highs tally work in
+        → let size = t.m * t.n in
+        let l = lent_with t.m t.n q.rule q.k weights (take size i) (take size s) picks lows highs tally work in
         printing (search_verdict l) l ≡ printed b
     unfolding printed lent_by
-    all_searched weights picks lows highs tally work chosen_are a c d t w =
-        let size = r.m * r.n in
-        let l = lent_with r.m r.n q.rule q.k weights (take size i) (take size s) picks lows highs tally work in
+    all_searched weights picks lows highs tally work chosen_are a c d e w =
+        let size = t.m * t.n in
+        let l = lent_with t.m t.n q.rule q.k weights (take size i) (take size s) picks lows highs tally work in
         let alike : Alike l (lent_by b) =
         record {
-          m_same = m_is lists_read many many' none';
-          n_same = n_is lists_read many many' none';
-          rule_same = rule_is x none;
-          k_same = k_is x none;
-          weights_same = rw (part_is_lists_of x none) at chosen_are;
-          items_same = items_are lists_read many many' none';
-          scores_same = scores_are lists_read many many' none';
+          m_same = m_is lists_read many many';
+          n_same = n_is lists_read many many';
+          rule_same = rule_is x;
+          k_same = k_is x;
+          weights_same = rw (part_is_lists_of x) at chosen_are;
+          items_same = items_are lists_read many many';
+          scores_same = scores_are lists_read many many';
           picks_long = a ∙ sym (length-replicate {A = ℕ} 1024 0);
           lows_long = c ∙ sym (length-replicate {A = ℕ} 1024 0);
           highs_long = d ∙ sym (length-replicate {A = ℕ} 1024 0);
-          tally_long = t ∙ sym (length-replicate {A = ℕ} 8192 0);
+          tally_long = e ∙ sym (length-replicate {A = ℕ} 8192 0);
           work_long = w ∙ sym (length-replicate {A = ℕ} 8192 0);
         } in
         alike_printing alike ∙ ap (λ (v : Verdict). printing v (lent_by b)) (sym passes_all)

@@ -2,7 +2,7 @@
 --     Roomy, Reading         room for the greatest set and the longest text; with it, a query that was read
 --     Previewed              what `preview` promises
 -- Assumes nothing.
-use Rattle.std.specs.Prelude.{◌≡◌, List, ℕ, ◌*◌, ◌≤◌, length}
+use Rattle.std.specs.Prelude.{◌≡◌, List, ℕ, ◌*◌, ◌≤◌, length, Ok}
 use Rattle.model.specs.Words.{over}
 use Rattle.model.specs.Program.{printed}
 use Rattle.records.specs.declared.QueryRead.{QueryRead}
@@ -22,8 +22,7 @@ pub record Roomy (items scores picks lows highs tally work out : List ℕ) : Typ
 
 -- A query that was read at the start of the bytes, and room for what is left to do
 pub record Reading (bytes : List ℕ) (query : QueryRead) (items scores picks lows highs tally work out : List ℕ) : Type 0 where
-  pub is_read : QueryIsRead bytes query
-  pub passes : query.number ≡ 0
+  pub is_read : QueryIsRead bytes (Ok query)
   pub room : Roomy items scores picks lows highs tally work out
 
 -- The text printed for the bytes stands at the start of the slice, its length is the answer, and places beyond stay as lent.

@@ -2,4 +2,4 @@
 --     Slid       the entries of a slice into which a value was slid
 --     Raising    the k greatest once one mark is raised
 mod Slid
-mod Raising
+pub mod Raising

@@ -17,7 +17,8 @@ use borrow.Author.Tests.{leb-true, leb-false, lt-ltb, le-ltb, lt-leb}
 use Rattle.laws.specs.Tests.{by_cases, some_none}
 use Rattle.laws.specs.Lists.{zeros_at}
 use Rattle.laws.specs.Passing.{passing, passing_most, passing_all, passing_none, passing_some}
-use Rattle.halting.specs.Clauses.{View, Legible, met_of, mark_of, Marked, reach_of, Barred}
+use Rattle.meeting.specs.Clauses.{View}
+use Rattle.halting.specs.Clauses.{Sound, met_of, mark_of, Marked, reach_of, Barred}
 use Rattle.raising.specs.Clauses.{Led}
 
 -- entries that fall from one to the next fall over any distance
@@ -90,13 +91,13 @@ led_start n k =
     }
 
 -- no item is met before the first row
-mark_start : {v : View} {p : ℕ} → Legible v p → (d : ℕ) → d < v.n → mark_of v 0 d ≡ 0
+mark_start : {v : View} → Sound v → (d : ℕ) → d < v.n → mark_of v 0 d ≡ 0
 unfolding mark_of met_of
 mark_start {v} w d hd =
     rw (some_none (λ i. leb (get_or v.work (i * v.n + d) 0) 0) v.m
     (λ i hi. lt-leb (get_or v.work (i * v.n + d) 0) 0 (w.place_least i d hi hd)))
 
-pub marked_start : {v : View} {p : ℕ} → Legible v p → Marked v 0 (replicate 1024 0)
+pub marked_start : {v : View} → Sound v → Marked v 0 (replicate 1024 0)
 marked_start w =
     record {
       marks_long = omega (arith, length-replicate {A = ℕ} 1024 0, w.n_most);

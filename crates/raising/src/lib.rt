@@ -3,10 +3,11 @@
 #![tactic(auto)]
 
 ghost use Rattle.std.specs.Prelude.{true, ◌≡◌, ◌≤◌, ◌<◌, length, get_or};
-ghost use Rattle.halting.specs.Clauses.{view, met_of, mark_of, Legible};
+ghost use Rattle.meeting.specs.Clauses.{view_of};
+ghost use Rattle.halting.specs.Clauses.{met_of, mark_of};
 ghost use Rattle.raising.specs.Clauses.{SeatBehind, Raised, NewlyGathered};
 
-use meeting::bound;
+use halting::rows::Rows;
 use meeting::sliding::slide_scores;
 
 // Behind how many of the first `end` entries x stands: the walk is from the last of them to the front, up
@@ -15,25 +16,22 @@ fn seat(x: u32, end: usize, tops: &[u32]) -> usize
     requires { end ≤ length tops.now }
     ensures { SeatBehind x end tops.now result }
 {
-    let mut j = end;
-    while 0 < j {
-        let at = j - 1;
-        if x <= tops[at] {
-            return j;
+    for j in (0..end).rev() {
+        if x <= tops[j] {
+            return j + 1;
         }
-        j = at;
     }
-    j
+    0
 }
 
 // The k greatest once a mark that was `old` is `new`. Where `old` is one of them, its own entry goes, so
 // that no item is counted twice, and else the least.
+#[tactic(auto, using(crate::proofs::Raising::raised_stays))]
 pub fn raise(k: usize, old: u32, new: u32, tops: &mut [u32])
     requires { (1 ≤ k) × (k ≤ length tops.old) × (old ≤ get_or tops.old 0 0) }
     ensures { Raised k old new tops.old tops.new }
 {
-    let least = k - 1;
-    if new <= tops[least] {
+    if new <= tops[k - 1] {
         return;
     }
     let behind = seat(old, k, tops);
@@ -43,22 +41,13 @@ pub fn raise(k: usize, old: u32, new: u32, tops: &mut [u32])
 }
 
 // The mark of item d, which is met after p rows: its low and one more.
-pub fn mark(
-    d: usize,
-    p: usize,
-    m: usize,
-    n: usize,
-    rule: u8,
-    weights: [u32; 8],
-    scores: &[u16],
-    work: &[u16],
-) -> u32
-    requires { Legible (view m n rule weights scores.now work.now) p × (d < n)
-        × (met_of (view m n rule weights scores.now work.now) p d ≡ true) }
-    ensures { result ≡ mark_of (view m n rule weights scores.now work.now) p d }
+#[tactic(auto, using(halting::specs::Marks::bound_most, halting::specs::Clauses::legible), unfolding(halting::specs::Clauses::mark_of))]
+pub fn mark(rows: Rows, d: usize, p: usize) -> u32
+    requires { (1 ≤ p) × (p ≤ rows.reading.set.poses) × (d < rows.reading.set.poses)
+        × (met_of (view_of rows.reading) p d ≡ true) }
+    ensures { result ≡ mark_of (view_of rows.entry.reading) p d }
 {
-    let low = bound(false, d, p, m, n, rule, &weights, scores, work);
-    low + 1
+    rows.low(d, p) + 1
 }
 
 // Item d, whose mark was `old`, among the items met, and how many there are then: a mark of 0 says that it is new.

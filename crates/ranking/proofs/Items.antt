@@ -24,7 +24,8 @@ use Rattle.laws.specs.Ahead.{never, ahead_ordering, ahead_is, by_low}
 use Rattle.laws.specs.Ranking.{take_insert, ranked_none, ranked_same, ranked_more}
 use Rattle.laws.specs.Kept.{kept_item, kept_front}
 use Rattle.halting.specs.Bar.{held}
-use Rattle.halting.specs.Clauses.{View, bound_of, met_of, Legible, mark_of, Marked, in_first, Gathered}
+use Rattle.meeting.specs.Clauses.{View, bound_of}
+use Rattle.halting.specs.Clauses.{met_of, Legible, mark_of, Marked, in_first, Listed}
 use Rattle.halting.specs.Marks.{mark_above, reach_is}
 use Rattle.halting.specs.Gathering.{first_none, first_more, one_more, none_more}
 use Rattle.blocking.specs.Clauses.{Kth}
@@ -132,7 +133,7 @@ module _ {v : View} {p d : ℕ} {marks : List ℕ} (w : Legible v p) (noted : Ma
 
 -- ---- all entries passed
 module _ {v : View} {k p top count : ℕ} {marks met : List ℕ} (w : Legible v p) (noted : Marked v p marks) (kth : Kth v.n k marks top)
-    (g : Gathered v.n marks met count) where
+    (g : Listed v.n marks met count) where
   abbrev bar : ℕ
   bar = top - 1
 

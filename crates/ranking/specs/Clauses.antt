@@ -7,7 +7,8 @@
 use Rattle.std.specs.Prelude.{◌≡◌, Bool, true, false, ◌&&◌, List, ℕ, ◌+◌, leb, get_or}
 use Rattle.meeting.specs.Shortlist.{Listing}
 use Rattle.halting.specs.Bar.{held}
-use Rattle.halting.specs.Clauses.{View, bound_of, met_of, in_first}
+use Rattle.meeting.specs.Clauses.{View, bound_of}
+use Rattle.halting.specs.Clauses.{met_of, in_first}
 
 -- the first k of the met items
 unfoldable pub held_of : View → ℕ → ℕ → List ℕ

@@ -4,6 +4,7 @@ ghost use Rattle.meeting.specs.Shortlist.{Keeps, Inserted};
 use meeting::{seats, sliding};
 
 // Item d into the first k, and how many there are then. Seat k means that it is not kept.
+#[tactic(auto, using(meeting::specs::Keeping::stays_out, meeting::specs::Keeping::slid_in))]
 pub fn keep(
     d: u16,
     low: u32,

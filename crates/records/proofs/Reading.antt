@@ -1,11 +1,11 @@
 -- What the two reads promise, in each of their ways out.
 --     query_refused, query_taken     a query that is refused; that is read
 --     Sizes, sizes_read              what is known of the sizes once they are read
---     refusal_told, items_as_lent, scores_as_lent      lists that are refused by their head: what is told, and what is left
+--     head_refused                   lists that are refused by their head: both slices are as lent
 --     items_short, scores_short      that are refused by 6
 --     lists_taken                    that are read
 -- Assumes nothing.
-use mathlib.Core.Path.{◌≡◌, refl, sym, ap, ◌∙◌}
+use mathlib.Core.Path.{◌≡◌, ap, ◌∙◌}
 use mathlib.Core.List.{List}
 use Prim.Native.Nat.{ℕ, ◌+◌, ◌*◌, ◌≤◌, ◌<◌}
 use native.Mathlib.Omega.{arith}
@@ -17,26 +17,27 @@ use Rattle.model.specs.Answers.{told, written}
 use Rattle.model.specs.Records.{byte, query_rule, query_k, query_count, query_head, query_answer, read_query, lists_m, lists_n, entry_item, entry_score, lists_head, lists_verdict, lists_answer, read_lists, items_after, scores_after}
 use Rattle.laws.specs.Accepted.{size_fits}
 use Rattle.filling.specs.Clauses.{every_fourth}
+use Rattle.std.specs.Prelude.{Ok, Err}
+use Rattle.poses.specs.declared.refusals.Refusal.{Refusal}
+use Rattle.poses.specs.declared.refusals.Refusal.TheVariants.{ShortRoom}
+use Rattle.poses.specs.Refusals.{told_of, refused_as}
 use Rattle.records.specs.declared.QueryRead.{QueryRead}
-use Rattle.records.specs.declared.ListsRead.{ListsRead}
-use Rattle.records.specs.Clauses.{value_of_query, query_refusal, QueryIsRead, value_of_lists, lists_refusal, ListsAreRead}
-use Rattle.records.specs.Held.{refused_by, lists_held}
+use Rattle.records.specs.Clauses.{QueryIsRead, ListsAreRead}
+use Rattle.records.specs.Held.{lists_held}
 
 -- ---- a query
 module _ (b : List ℕ) where
-  pub query_refused : {x : ℕ} {r : QueryRead} → x ≡ (told (query_head b)).number → (x ≡ 0 → ⊥)
-      → value_of_query r ≡ query_refusal x → QueryIsRead b r
+  pub query_refused : (e : Refusal) → told_of e ≡ told (query_head b) → QueryIsRead b (Err e)
   unfolding read_query query_answer
-  query_refused {x} e bad says =
-      refused_by (query_head b) e bad (λ i p (refuses : query_head b ≡ refused x i p). record { answers = rw refuses says })
+  query_refused e says = record { tells = says; answers = rw (refused_as e (query_head b) says) }
 
   -- the answer of a query that is read, from its k and its count
   abbrev pub query_of : ℕ → ℕ → QueryRead
-  query_of k c = record { number = 0; rule = byte b 5; k = k; c = c; bytes = 9 + 2 * c }
+  query_of k c = record { rule = byte b 5; k = k; c = c; bytes = 9 + 2 * c }
 
-  pub query_taken : (k c : ℕ) → query_head b ≡ accepted → k ≡ pair b 6 → c ≡ query_count b → QueryIsRead b (query_of k c)
+  pub query_taken : (k c : ℕ) → query_head b ≡ accepted → k ≡ pair b 6 → c ≡ query_count b → QueryIsRead b (Ok (query_of k c))
   unfolding read_query query_answer query_rule query_k
-  query_taken k c passes k_is c_is = record { answers = rw (passes, k_is, c_is) }
+  query_taken k c passes k_is c_is = record { tells = rw passes; answers = rw (passes, k_is, c_is) }
 
 -- ---- lists
 -- m and n are the sizes of a list record that passes: m x n is small, and the bytes are head, house weights and m x n entries
@@ -60,27 +61,31 @@ sizes_read b passes m_is n_is =
 
 module _ (b items scores : List ℕ) where
   -- both slices are as lent
-  abbrev pub AsLent : ListsRead → Type 0
-  AsLent r = ListsAreRead b items scores r items scores
+  abbrev pub AsLent : Refusal → Type 0
+  AsLent e = ListsAreRead b items scores (Err e) items scores
 
-  refused_leaves : {x : ℕ} (i p : ℕ) {r : ListsRead} → lists_verdict b items scores ≡ refused x i p
-      → value_of_lists r ≡ lists_refusal x → AsLent r
+  refused_leaves : (e : Refusal) → lists_verdict b items scores ≡ refused (told_of e).number (told_of e).list (told_of e).position → AsLent e
   unfolding read_lists lists_answer items_after scores_after written
-  refused_leaves i p e says = record { answers = rw e says; leaves_items = rw e; leaves_scores = rw e }
+  refused_leaves e says = record { tells = rw says; answers = rw says; leaves_items = rw says; leaves_scores = rw says }
+
+  -- lists that are refused by their head
+  pub head_refused : (e : Refusal) → told_of e ≡ told (lists_head b) → AsLent e
+  unfolding lists_verdict
+  head_refused e says = refused_leaves e (rw (refused_as e (lists_head b) says))
 
   module _ {m n : ℕ} (z : Sizes b m n) where
-    pub items_short : {r : ListsRead} → length items < m * n → value_of_lists r ≡ lists_refusal 6 → AsLent r
+    -- a slice is too short
+    pub items_short : length items < m * n → AsLent ShortRoom
     unfolding lists_verdict short
-    items_short h says =
-        refused_leaves 0 0 (rw (z.passes, ← z.m_is, ← z.n_is, lt-ltb (length items) (m * n) h)) says
+    items_short h = refused_leaves ShortRoom (rw (z.passes, ← z.m_is, ← z.n_is, lt-ltb (length items) (m * n) h))
 
     module _ (items_room : m * n ≤ length items) where
-      pub scores_short : {r : ListsRead} → length scores < m * n → value_of_lists r ≡ lists_refusal 6 → AsLent r
+      pub scores_short : length scores < m * n → AsLent ShortRoom
       unfolding lists_verdict short
-      scores_short h says =
-          refused_leaves 0 0
+      scores_short h =
+          refused_leaves ShortRoom
           (rw (z.passes, ← z.m_is, ← z.n_is, le-ltb (length items) (m * n) items_room)
-          (rw (lt-ltb (length scores) (m * n) h))) says
+          (rw (lt-ltb (length scores) (m * n) h)))
 
       module _ (scores_room : m * n ≤ length scores) where
         accepts : lists_verdict b items scores ≡ accepted
@@ -97,33 +102,13 @@ module _ (b items scores : List ℕ) where
         scores_filled : filled_from (8 + 2 * m + 2) scores ≡ filled_from (10 + 2 * m) scores
         scores_filled = let at : 8 + 2 * m + 2 ≡ 10 + 2 * m = omega arith in ap (λ (from : ℕ). filled_from from scores) at
 
-        pub lists_taken : {x : ℕ} {i s : List ℕ} → x ≡ 0 → i ≡ filled_from (8 + 2 * m) items → s ≡ filled_from (8 + 2 * m + 2) scores
-            → ListsAreRead b items scores (record { number = x; m = m; n = n }) i s
+        pub lists_taken : {i s : List ℕ} → i ≡ filled_from (8 + 2 * m) items → s ≡ filled_from (8 + 2 * m + 2) scores
+            → ListsAreRead b items scores (Ok (record { m = m; n = n })) i s
         unfolding read_lists lists_answer items_after scores_after written entry_item entry_score
-        lists_taken none i_is s_is =
+        lists_taken i_is s_is =
             record {
-              answers = rw (accepts, none, z.m_is, z.n_is);
+              tells = rw accepts;
+              answers = rw (accepts, z.m_is, z.n_is);
               leaves_items = rw accepts (rw (z.m_is, z.n_is) at i_is);
               leaves_scores = rw accepts (rw (z.m_is, z.n_is) at (s_is ∙ scores_filled));
             }
-
--- Lists that are refused by their head, by whatever test of the number it is seen
-lists_refused : (b items scores : List ℕ) (r : ListsRead) → 0 < (told (lists_head b)).number
-    → value_of_lists r ≡ lists_refusal (told (lists_head b)).number → ListsAreRead b items scores r items scores
-unfolding lists_verdict
-lists_refused b items scores r some says =
-    refused_by (lists_head b) refl (λ none. absurd (omega (arith, none)))
-    (λ i p (refuses : lists_head b ≡ refused (told (lists_head b)).number i p). refused_leaves b items scores i p (rw refuses) says)
-
-pub refusal_told : (b items scores : List ℕ) → 0 < (told (lists_head b)).number
-    → read_lists b items scores ≡ lists_refusal (told (lists_head b)).number
-refusal_told b items scores some =
-    sym (lists_refused b items scores (record { number = (told (lists_head b)).number; m = 0; n = 0 }) some refl).answers
-
-pub items_as_lent : (b items scores : List ℕ) → 0 < (told (lists_head b)).number → items_after b items scores ≡ items
-items_as_lent b items scores some =
-    sym (lists_refused b items scores (record { number = (told (lists_head b)).number; m = 0; n = 0 }) some refl).leaves_items
-
-pub scores_as_lent : (b items scores : List ℕ) → 0 < (told (lists_head b)).number → scores_after b items scores ≡ scores
-scores_as_lent b items scores some =
-    sym (lists_refused b items scores (record { number = (told (lists_head b)).number; m = 0; n = 0 }) some refl).leaves_scores

@@ -6,7 +6,7 @@
 --     lists_sized                            lists that are read: sizes that test 1 lets pass, and room for them
 -- A slice that is returned is where it stands and what it holds; the name that the logic tracks it by is no part of a result.
 -- Assumes nothing.
-use Rattle.std.specs.Prelude.{◌≡◌, refl, ◌||◌, List, ◌↔◌, ℕ, ◌+◌, ◌*◌, ◌≤◌, length}
+use Rattle.std.specs.Prelude.{◌≡◌, refl, ◌||◌, List, ◌↔◌, ℕ, ◌+◌, ◌*◌, ◌≤◌, length, Result, Ok, Err}
 use Rattle.std.proofs.Common.{sym, ◌∙◌, arith}
 use Rattle.std.proofs.Math.Path.{ap}
 use Rattle.std.specs.Borrow.{Bor}
@@ -15,18 +15,28 @@ use Rattle.model.specs.Records.{QueryRead as QueryValue, query_head, query_count
 use Rattle.laws.specs.Tests.{or_no}
 use Rattle.laws.specs.Verdicts.{Numbered, numbered_when, numbered_then, when_passes, then_first, then_second}
 use Rattle.laws.specs.Accepted.{Sized, long}
+use Rattle.model.specs.Answers.{Told}
+use Rattle.poses.specs.declared.refusals.Refusal.{Refusal}
+use Rattle.poses.specs.Refusals.{value_of, told_once, number_some}
 use Rattle.records.specs.declared.QueryRead.{QueryRead}
 use Rattle.records.specs.declared.ListsRead.{ListsRead}
 use Rattle.records.specs.Clauses.{value_of_query, QueryIsRead, value_of_lists, ListsAreRead, WeightsChosen}
 use Rattle.records.specs.Held.{numbered_query, query_held, numbered_lists, lists_held}
 
 -- ---- a query
-pub query_one_to_one : (r t : QueryRead) → value_of_query r ≡ value_of_query t → r ≡ t
-query_one_to_one r t e =
-    λ j. record { number = (e j).number; rule = (e j).rule; k = (e j).k; c = (e j).c; bytes = (e j).bytes }
+query_in : QueryValue → QueryRead
+query_in v = record { rule = v.rule; k = v.k; c = v.c; bytes = v.bytes }
 
-pub query_settles : {b : List ℕ} {r t : QueryRead} → QueryIsRead b r → QueryIsRead b t → r ≡ t
-query_settles {b} {r} {t} x y = query_one_to_one r t (x.answers ∙ sym y.answers)
+-- two answers that are told alike and have one value are one answer
+pub query_one_to_one : (r t : Result QueryRead Refusal) → value_of r ≡ value_of t → value_of_query r ≡ value_of_query t → r ≡ t
+unfolding query_in
+query_one_to_one (Ok r) (Ok t) told e = ap (λ (v : QueryValue). Ok (query_in v)) e
+query_one_to_one (Ok r) (Err d) told e = absurd (number_some d (sym (ap (λ (v : Told). v.number) told)))
+query_one_to_one (Err d) (Ok t) told e = absurd (number_some d (ap (λ (v : Told). v.number) told))
+query_one_to_one (Err d) (Err f) told e = ap (λ (x : Refusal). Err x) (told_once d f told)
+
+pub query_settles : {b : List ℕ} {r t : Result QueryRead Refusal} → QueryIsRead b r → QueryIsRead b t → r ≡ t
+query_settles {b} {r} {t} x y = query_one_to_one r t (x.tells ∙ sym y.tells) (x.answers ∙ sym y.answers)
 
 -- an answer's number is 0 only where the verdict accepts
 query_number : (v : Verdict) (b : List ℕ) → Numbered v → (query_answer v b).number ≡ 0 → v ≡ accepted
@@ -34,8 +44,8 @@ unfolding query_answer
 query_number accepted b n e = refl
 query_number (refused x i p) b n e = absurd (omega arith)
 
-module _ {b : List ℕ} {r : QueryRead} (x : QueryIsRead b r) where
-  pub query_zero : (r.number ≡ 0) ↔ (query_head b ≡ accepted)
+module _ {b : List ℕ} {r : Result QueryRead Refusal} (x : QueryIsRead b r) where
+  pub query_zero : ((value_of_query r).number ≡ 0) ↔ (query_head b ≡ accepted)
   unfolding read_query query_answer
   query_zero =
       let same = ap (λ (v : QueryValue). v.number) x.answers in (
@@ -44,22 +54,32 @@ module _ {b : List ℕ} {r : QueryRead} (x : QueryIsRead b r) where
       )
 
   -- `&input[bytes..]` is what follows the record
-  pub query_within : r.number ≡ 0 → r.bytes ≤ length b
+  pub query_within : (q : QueryRead) → r ≡ Ok q → q.bytes ≤ length b
   unfolding read_query query_answer
-  query_within none =
+  query_within q is_read =
+      let none : (value_of_query r).number ≡ 0 = rw is_read in
       let passes = query_zero.0 none in
       let answer = x.answers ∙ ap (λ (v : Verdict). query_answer v b) passes in
-      let taken : r.bytes ≡ 9 + 2 * query_count b = ap (λ (v : QueryValue). v.bytes) answer in
-      omega (arith, (query_held b passes).weights_in)
+      let taken : (value_of_query r).bytes ≡ 9 + 2 * query_count b = ap (λ (v : QueryValue). v.bytes) answer in
+      let own : q.bytes ≡ 9 + 2 * query_count b = rw is_read at taken in
+      omega (arith, (query_held b passes).weights_in, own)
 
 -- ---- lists
-pub lists_one_to_one : (r t : ListsRead) → value_of_lists r ≡ value_of_lists t → r ≡ t
-lists_one_to_one r t e = λ j. record { number = (e j).number; m = (e j).m; n = (e j).n }
+lists_in : ListsValue → ListsRead
+lists_in v = record { m = v.m; n = v.n }
 
-pub lists_settle : {b items scores i k s u : List ℕ} {r t : ListsRead} → ListsAreRead b items scores r i s
+-- two answers that are told alike and have one value are one answer
+pub lists_one_to_one : (r t : Result ListsRead Refusal) → value_of r ≡ value_of t → value_of_lists r ≡ value_of_lists t → r ≡ t
+unfolding lists_in
+lists_one_to_one (Ok r) (Ok t) told e = ap (λ (v : ListsValue). Ok (lists_in v)) e
+lists_one_to_one (Ok r) (Err d) told e = absurd (number_some d (sym (ap (λ (v : Told). v.number) told)))
+lists_one_to_one (Err d) (Ok t) told e = absurd (number_some d (ap (λ (v : Told). v.number) told))
+lists_one_to_one (Err d) (Err f) told e = ap (λ (x : Refusal). Err x) (told_once d f told)
+
+pub lists_settle : {b items scores i k s u : List ℕ} {r t : Result ListsRead Refusal} → ListsAreRead b items scores r i s
     → ListsAreRead b items scores t k u → (r ≡ t) × (i ≡ k) × (s ≡ u)
 lists_settle {r = r} {t = t} x y = (
-  lists_one_to_one r t (x.answers ∙ sym y.answers),
+  lists_one_to_one r t (x.tells ∙ sym y.tells) (x.answers ∙ sym y.answers),
   x.leaves_items ∙ sym y.leaves_items,
   x.leaves_scores ∙ sym y.leaves_scores,
 )
@@ -75,14 +95,14 @@ pub record ListsSized (items scores : List ℕ) (r : ListsRead) : Type 0 where
   pub items_long : r.m * r.n ≤ length items
   pub scores_long : r.m * r.n ≤ length scores
 
-module _ {b items scores i s : List ℕ} {r : ListsRead} (x : ListsAreRead b items scores r i s) where
+module _ {b items scores i s : List ℕ} {r : Result ListsRead Refusal} (x : ListsAreRead b items scores r i s) where
   numbered_verdict : Numbered (lists_verdict b items scores)
   unfolding lists_verdict
   numbered_verdict =
       let both = short (lists_m b * lists_n b) items || short (lists_m b * lists_n b) scores in
       numbered_then (lists_head b) (6 when both) (numbered_lists b) (numbered_when 6 both (omega arith))
 
-  pub lists_zero : (r.number ≡ 0) ↔ (lists_verdict b items scores ≡ accepted)
+  pub lists_zero : ((value_of_lists r).number ≡ 0) ↔ (lists_verdict b items scores ≡ accepted)
   unfolding read_lists lists_answer
   lists_zero =
       let same = ap (λ (v : ListsValue). v.number) x.answers in (
@@ -90,13 +110,16 @@ module _ {b items scores i s : List ℕ} {r : ListsRead} (x : ListsAreRead b ite
         λ e. same ∙ ap (λ (v : Verdict). (lists_answer v b).number) e,
       )
 
-  pub lists_sized : r.number ≡ 0 → ListsSized items scores r
+  pub lists_sized : (t : ListsRead) → r ≡ Ok t → ListsSized items scores t
   unfolding read_lists lists_answer lists_verdict
-  lists_sized none =
+  lists_sized t is_read =
+      let none : (value_of_lists r).number ≡ 0 = rw is_read in
       let passes = lists_zero.0 none in
       let answer = x.answers ∙ ap (λ (v : Verdict). lists_answer v b) passes in
-      let m_is : r.m ≡ lists_m b = ap (λ (v : ListsValue). v.m) answer in
-      let n_is : r.n ≡ lists_n b = ap (λ (v : ListsValue). v.n) answer in
+      let m_told : (value_of_lists r).m ≡ lists_m b = ap (λ (v : ListsValue). v.m) answer in
+      let n_told : (value_of_lists r).n ≡ lists_n b = ap (λ (v : ListsValue). v.n) answer in
+      let m_is : t.m ≡ lists_m b = rw is_read at m_told in
+      let n_is : t.n ≡ lists_n b = rw is_read at n_told in
       let size = lists_m b * lists_n b in
       let both = short size items || short size scores in
       let six = 6 when both in

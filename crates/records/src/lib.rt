@@ -2,112 +2,83 @@
 #![tactic(auto)]
 
 ghost use Rattle.std.specs.Prelude.{◌≡◌};
-ghost use Rattle.records.specs.Clauses.{value_of_query, query_refusal, value_of_lists, lists_refusal, QueryIsRead, ListsAreRead, WeightsChosen};
+ghost use Rattle.records.specs.Clauses.{QueryIsRead, ListsAreRead, WeightsChosen};
 
 use filling::fill;
 use heads::{lists_head, lists_m, lists_n, pair_at, query_count, query_head};
+use poses::refusals::Refusal;
 
-// What the read of a query answers: a refusal's number with all else 0, or number 0 and the query.
-// A caller hands `rule` and `k` on to a search with no cast: `rule` is the record's own byte, and
-// `k` a `usize`, as is all that a search counts with. `c` counts weights and `bytes` the bytes
-// taken, `usize` too, so that `&input[bytes..]` is what follows the record.
-#[derive(Clone, Copy)]
+/// A query record that was read. `rule`, `count` and a search's weights go into a query with no cast, and
+/// `&input[bytes..]` is what follows the record.
+#[derive(Clone, Copy, Debug, PartialEq, Eq)]
 pub struct QueryRead {
-    pub number: u32,
+    /// The record's own byte; a search tests it.
     pub rule: u8,
+    /// How many places the shortlist is to have.
     pub k: usize,
+    /// How many weights the record has: 0, or one for each list.
     pub c: usize,
+    /// How many bytes the record took.
     pub bytes: usize,
 }
 
-// What the read of lists answers: a refusal's number with all else 0, or number 0 and the sizes,
-// which a caller hands on to a search with no cast.
-#[derive(Clone, Copy)]
+/// The sizes of a list record that was read.
+#[derive(Clone, Copy, Debug, PartialEq, Eq)]
 pub struct ListsRead {
-    pub number: u32,
+    /// How many lists there are: 1 to 8.
     pub m: usize,
+    /// How many poses there are: 1 to 1,024.
     pub n: usize,
 }
 
-// A refused read of a query answers the number alone.
-fn query_refused(number: u32) -> QueryRead
-    ensures { value_of_query result ≡ query_refusal number }
-{
-    QueryRead {
-        number,
-        rule: 0,
-        k: 0,
-        c: 0,
-        bytes: 0,
-    }
-}
-
-// Reads the query record that stands at the start of `bytes`; other records may follow it.
-#[tactic(auto, using(crate::specs::Held::query_accepted, crate::specs::Held::query_held, crate::proofs::Reading::query_refused, crate::proofs::Reading::query_taken))]
-pub fn read_query(bytes: &[u8]) -> QueryRead
+/// Reads the query record that stands at the start of `bytes`; other records may follow it.
+#[tactic(auto, using(crate::specs::Held::query_held, crate::proofs::Reading::query_refused, crate::proofs::Reading::query_taken))]
+pub fn read_query(bytes: &[u8]) -> Result<QueryRead, Refusal>
     ensures { QueryIsRead bytes.now result }
 {
-    let refusal = query_head(bytes);
-    if refusal != 0 {
-        return query_refused(refusal);
-    }
-    let k = pair_at(bytes, 6);
+    query_head(bytes)?;
     let c = query_count(bytes);
-    QueryRead {
-        number: 0,
+    Ok(QueryRead {
         rule: bytes[5],
-        k,
+        k: pair_at(bytes, 6),
         c,
         bytes: 9 + 2 * c,
-    }
+    })
 }
 
-// A refused read of lists answers the number alone.
-fn lists_refused(number: u32) -> ListsRead
-    ensures { value_of_lists result ≡ lists_refusal number }
-{
-    ListsRead { number, m: 0, n: 0 }
-}
-
-// Reads the list record that `bytes` is into an item slice and a score slice. Entries past m x n
-// stay as lent, and so do both slices where the read is refused.
-#[tactic(auto, using(crate::specs::Held::lists_accepted, crate::proofs::Reading::sizes_read, crate::proofs::Reading::refusal_told, crate::proofs::Reading::items_as_lent, crate::proofs::Reading::scores_as_lent))]
-pub fn read_lists(bytes: &[u8], items: &mut [u16], scores: &mut [u16]) -> ListsRead
+/// Reads the list record that `bytes` is into an item slice and a score slice. Entries past m x n stay as
+/// lent, and so do both slices where the read is refused.
+#[tactic(auto, using(crate::specs::Held::lists_held, crate::proofs::Reading::sizes_read, crate::proofs::Reading::head_refused, crate::proofs::Reading::items_short, crate::proofs::Reading::scores_short, crate::proofs::Reading::lists_taken))]
+pub fn read_lists(bytes: &[u8], items: &mut [u16], scores: &mut [u16]) -> Result<ListsRead, Refusal>
     ensures { ListsAreRead bytes.now items.old scores.old result
         items.new scores.new }
 {
-    let number = lists_head(bytes);
-    if number != 0 {
-        return lists_refused(number);
-    }
+    lists_head(bytes)?;
     let m = lists_m(bytes);
     let n = lists_n(bytes);
     let size = m * n;
-    if items.len() < size {
-        return lists_refused(6);
-    }
-    if scores.len() < size {
-        return lists_refused(6);
+    if items.len() < size || scores.len() < size {
+        return Err(Refusal::ShortRoom);
     }
     let start = 8 + 2 * m;
     fill(bytes, start, size, items);
     fill(bytes, start + 2, size, scores);
-    ListsRead { number, m, n }
+    Ok(ListsRead { m, n })
 }
 
 // The weights that a query is to be searched with: its own, or where it has none the house weights
 // of the lists. They are a part of the one record or the other, uncopied, and empty where the read
 // of either refuses it by another number than 6.
-#[tactic(auto, using(crate::specs::Held::query_accepted, crate::specs::Held::query_held, crate::specs::Held::lists_accepted, crate::specs::Held::lists_held, crate::proofs::Choosing::none_of_refused_query, crate::proofs::Choosing::none_of_refused_lists), unfolding(crate::specs::Clauses::start_of, crate::specs::Clauses::lent_of, model::specs::Records::part_of, model::specs::Records::record_of))]
+#[tactic(auto, using(crate::specs::Held::query_held, crate::specs::Held::lists_held, crate::proofs::Choosing::none_of_refused_query, crate::proofs::Choosing::none_of_refused_lists), unfolding(crate::specs::Clauses::start_of, crate::specs::Clauses::lent_of, model::specs::Records::part_of, model::specs::Records::record_of))]
 pub fn chosen_weights<'a>(query: &'a [u8], lists: &'a [u8]) -> &'a [u8]
     ensures { WeightsChosen query.entry lists.entry result }
 {
-    if query_head(query) != 0 {
+    let Ok(()) = query_head(query) else {
         return &query[0..0];
-    }
-    if lists_head(lists) != 0 {
+    };
+    let Ok(()) = lists_head(lists) else {
         return &query[0..0];
-    }
+    };
     let count = query_count(query);
     if count == 0 {
         let end = 8 + 2 * lists_m(lists);

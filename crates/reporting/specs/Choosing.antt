@@ -10,7 +10,9 @@ use Rattle.model.specs.Refusals.{accepted, refused}
 use Rattle.model.specs.Records.{QueryRead as QueryValue, query_count, query_head, query_answer, read_query, lists_m, lists_head, Part, chosen, part_of}
 use Rattle.laws.specs.Verdicts.{by_verdict}
 use Rattle.records.specs.declared.QueryRead.{QueryRead}
-use Rattle.records.specs.Clauses.{QueryIsRead}
+use Rattle.std.specs.Prelude.{Result}
+use Rattle.poses.specs.declared.refusals.Refusal.{Refusal}
+use Rattle.records.specs.Clauses.{value_of_query, QueryIsRead}
 use Rattle.records.specs.Held.{lists_held}
 use Rattle.records.specs.Choice.{no_part, house_part, own_part, weights_of, chosen_of_refused_query, chosen_of_refused_lists, chosen_house, chosen_own, house_length, own_length}
 use Rattle.reporting.specs.Told.{source_number, PartTold}
@@ -87,15 +89,15 @@ module _ (query lists : List ℕ) (size count : ℕ) (long : size ≡ length (we
   own_by (own_is e bytes many says) some more = part_told query lists (own_part query) size e (long ∙ bytes)
 
 -- the three ways out, by the weights and by what the read of the query answers
-module _ (query lists : List ℕ) {w : List ℕ} {q : QueryRead} (holds : w ≡ weights_of query lists) (read : QueryIsRead query q) where
-  counts : q.c ≡ (read_query query).c
+pub none_told : (query lists : List ℕ) {w : List ℕ} → w ≡ weights_of query lists → length w ≡ 0 → PartTold query lists 0 (0 ∷ 0 ∷ 0 ∷ [])
+none_told query lists {w} holds = none_by query lists (length w) (read_query query).c (ap length holds) refl (choice query lists)
+
+module _ (query lists : List ℕ) {w : List ℕ} {r : Result QueryRead Refusal} (holds : w ≡ weights_of query lists) (read : QueryIsRead query r) where
+  counts : (value_of_query r).c ≡ (read_query query).c
   counts = ap (λ (v : QueryValue). v.c) read.answers
 
-  pub none_told : length w ≡ 0 → PartTold query lists 0 (0 ∷ 0 ∷ 0 ∷ [])
-  none_told = none_by query lists (length w) q.c (ap length holds) counts (choice query lists)
+  pub house_told : (length w ≡ 0 → ⊥) → (value_of_query r).c ≡ 0 → PartTold query lists (length w) (1 ∷ 8 ∷ length w ∷ [])
+  house_told = house_by query lists (length w) (value_of_query r).c (ap length holds) counts (choice query lists)
 
-  pub house_told : (length w ≡ 0 → ⊥) → q.c ≡ 0 → PartTold query lists (length w) (1 ∷ 8 ∷ length w ∷ [])
-  house_told = house_by query lists (length w) q.c (ap length holds) counts (choice query lists)
-
-  pub own_told : (length w ≡ 0 → ⊥) → (q.c ≡ 0 → ⊥) → PartTold query lists (length w) (0 ∷ 9 ∷ length w ∷ [])
-  own_told = own_by query lists (length w) q.c (ap length holds) counts (choice query lists)
+  pub own_told : (length w ≡ 0 → ⊥) → ((value_of_query r).c ≡ 0 → ⊥) → PartTold query lists (length w) (0 ∷ 9 ∷ length w ∷ [])
+  own_told = own_by query lists (length w) (value_of_query r).c (ap length holds) counts (choice query lists)

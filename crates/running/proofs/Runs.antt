@@ -14,7 +14,7 @@ use Rattle.model.specs.Searches.{Search, kept, rows, by_score, NRA}
 use Rattle.laws.specs.Lists.{over_taken}
 use Rattle.laws.specs.Accepted.{Valid}
 use Rattle.demands.specs.Promised.{promised}
-use Rattle.meeting.specs.declared.Done.{Done}
+use Rattle.meeting.specs.declared.Found.{Found}
 use Rattle.meeting.specs.Clauses.{Ran}
 use Rattle.scored.specs.Run.{search_by, search_ta, search_bpa, search_bpa2, RanBy}
 use Rattle.bounded.specs.Clauses.{Finished}
@@ -43,7 +43,7 @@ kept_k (suc zero) s q k h v some most = rw (search_bpa s q) (promised s v q k so
 kept_k (suc (suc zero)) s q k h v some most = rw (search_bpa2 s q) (promised s v q k some most).bpa2.size
 kept_k (suc (suc (suc which))) s q k h v some most = absurd (omega (arith, h))
 
-module _ (which : ℕ) (s : Poses) (q : Query) (k : ℕ) (picks₀ lows₀ highs₀ tally₀ : List ℕ) (d : Done) (picks lows highs marks : List ℕ) where
+module _ (which : ℕ) (s : Poses) (q : Query) (k : ℕ) (picks₀ lows₀ highs₀ tally₀ : List ℕ) (d : Found) (picks lows highs marks : List ℕ) where
   pub scored_runs : which ≤ 2 → Valid s → 1 ≤ k → k ≤ s.n
       → RanBy which s q k picks₀ lows₀ tally₀ d picks lows marks → highs ≡ over (take k lows) highs₀
       → Runs which s q k picks₀ lows₀ highs₀ tally₀ d picks lows highs marks

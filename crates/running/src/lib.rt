@@ -1,81 +1,59 @@
-// The run of a search, once its tests are passed: TA, BPA, BPA2 or NRA, by its number.
+// The run of a search, once its tests are passed: TA, BPA, BPA2 or NRA.
 #![tactic(auto)]
 
 ghost use Rattle.std.specs.Prelude.{◌≤◌};
-ghost use Rattle.entries.specs.Clauses.{poses};
-ghost use Rattle.meeting.specs.Clauses.{query_with, Readable, Room};
+ghost use Rattle.poses.specs.Methods.{method_number};
+ghost use Rattle.poses.specs.Sets.{set_of};
+ghost use Rattle.meeting.specs.Clauses.{query_of, Room};
 ghost use Rattle.running.specs.Clauses.{Runs};
 
-use meeting::Done;
-
-// The searches' numbers, in the order of their lines in the previewer.
-pub const TA: u8 = judging::TA;
-
-pub const BPA: u8 = judging::BPA;
-
-pub const BPA2: u8 = judging::BPA2;
-
-pub const NRA: u8 = 3;
+use judging::{Bpa, Bpa2, Ta};
+use meeting::{Accepted, Found};
+use poses::methods::Method;
+use scored::Scored;
 
 // TA, BPA or BPA2, and the highs.
-fn by_score(
-    which: u8,
-    m: usize,
-    n: usize,
-    items: &[u16],
-    scores: &[u16],
-    rule: u8,
-    weights: [u32; 8],
+fn by_score<M: Scored>(
+    accepted: Accepted,
     k: usize,
     picks: &mut [u16],
     lows: &mut [u32],
     highs: &mut [u32],
     tally: &mut [u8],
-    work: &[u16],
-) -> Done
-    requires { (which ≤ 2) × (Readable (poses m n items.now scores.now) (query_with rule weights)
-        work.now × Room (poses m n items.now scores.now) k picks.old lows.old highs.old
-        tally.old) }
-    ensures { Runs which (poses m n items.now scores.now)
-        (query_with rule weights) k picks.old lows.old highs.old
-        tally.old result picks.new lows.new highs.new tally.new }
+) -> Found
+    requires by_score { M.number ≤ 2 }
+    requires room { Room (set_of accepted.reading.set) k picks.old lows.old highs.old tally.old }
+    ensures { Runs M.number (set_of accepted.entry.reading.set) (query_of accepted.entry.reading) k
+        picks.old lows.old highs.old tally.old result picks.new lows.new highs.new tally.new }
 {
-    let done = scored::run(
-        which, m, n, rule, weights, k, items, scores, picks, lows, tally, work,
-    );
+    let found = scored::run::<M>(accepted, k, picks, lows, tally);
     completing::repeat_lows(k, lows, highs);
-    done
+    found
 }
 
-// The search of a number over accepted lists, whose positions the work slice holds.
+/// A search over an accepted set and query: the first k items with their lows and highs, and the tally, over what
+/// was lent.
 pub fn run(
-    which: u8,
-    m: usize,
-    n: usize,
-    items: &[u16],
-    scores: &[u16],
-    rule: u8,
-    weights: [u32; 8],
+    method: Method,
+    accepted: Accepted,
     k: usize,
     picks: &mut [u16],
     lows: &mut [u32],
     highs: &mut [u32],
     tally: &mut [u8],
-    work: &[u16],
-) -> Done
-    requires { Readable (poses m n items.now scores.now) (query_with rule weights) work.now
-        × Room (poses m n items.now scores.now) k picks.old lows.old highs.old tally.old }
-    ensures { Runs which (poses m n items.now scores.now)
-        (query_with rule weights) k picks.old lows.old highs.old
-        tally.old result picks.new lows.new highs.new tally.new }
+) -> Found
+    requires { Room (set_of accepted.reading.set) k picks.old lows.old highs.old tally.old }
+    ensures { Runs (method_number method) (set_of accepted.entry.reading.set)
+        (query_of accepted.entry.reading) k picks.old lows.old highs.old tally.old result picks.new
+        lows.new highs.new tally.new }
 {
-    if which < NRA {
-        return by_score(
-            which, m, n, items, scores, rule, weights, k, picks, lows, highs, tally, work,
-        );
+    match method {
+        Method::Ta => by_score::<Ta>(accepted, k, picks, lows, highs, tally),
+        Method::Bpa => by_score::<Bpa>(accepted, k, picks, lows, highs, tally),
+        Method::Bpa2 => by_score::<Bpa2>(accepted, k, picks, lows, highs, tally),
+        Method::Nra => {
+            let rows = bounded::run_nra(accepted, k, picks, lows, highs, tally);
+            completing::only_sorted(accepted.reading.set.lists, rows)
+        }
     }
-    let rows = bounded::run_nra(
-        m, n, items, scores, rule, weights, k, picks, lows, highs, tally, work,
-    );
-    completing::only_sorted(m, rows)
 }

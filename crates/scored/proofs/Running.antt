@@ -1,5 +1,4 @@
 -- From one row or round to the next, whichever of the three searches it is.
---     steps_rounds, steps_rows, kind_direct, kind_sorted     what the numbers 0, 1, 2 stand for
 --     row_reached, row_counted       how far the lists are visited, and the accesses counted, after one row more
 --     counts_are                     the three counts, from the number of lookups
 --     reached_at                     the threshold's positions lie within the lists, and the lists are visited up to them
@@ -34,26 +33,29 @@ use Rattle.laws.specs.Rounds.{none_met, rounds_turns, rounds_covers}
 use Rattle.laws.specs.Ranking.{ranked_none}
 use Rattle.laws.specs.Kept.{last_at}
 use Rattle.laws.specs.Overall.{joined_same}
-use Rattle.entries.specs.Clauses.{poses}
-use Rattle.meeting.specs.Clauses.{query_with, limit_at}
+use Rattle.poses.specs.Sets.{set_of}
+use Rattle.poses.specs.Rules.{rule_number}
+use Rattle.meeting.specs.Clauses.{query_of, limit_at}
 use Rattle.meeting.specs.Keeping.{listing_none}
+use Rattle.meeting.specs.declared.Reading.{Reading}
+use Rattle.noting.specs.declared.shortlist.Shortlist.{Shortlist}
 use Rattle.stepping.specs.State.{ranking, State, VisitedUpTo}
 use Rattle.scored.specs.Run.{steps_by, reach_by, kind_by, search_by}
 
 -- ---- the numbers
-pub steps_rounds : (which : ℕ) (s : Poses) (p : ℕ) → which ≡ 2 → steps_by which s p ≡ rounds s p
+steps_rounds : (which : ℕ) (s : Poses) (p : ℕ) → which ≡ 2 → steps_by which s p ≡ rounds s p
 unfolding steps_by
 steps_rounds which s p e = rw (eq-eqb which 2 e)
 
-pub steps_rows : (which : ℕ) (s : Poses) (p : ℕ) → (which ≡ 2 → ⊥) → steps_by which s p ≡ rows_ta s p
+steps_rows : (which : ℕ) (s : Poses) (p : ℕ) → (which ≡ 2 → ⊥) → steps_by which s p ≡ rows_ta s p
 unfolding steps_by
 steps_rows which s p h = rw (ne_eqb which 2 h)
 
-pub kind_direct : (which : ℕ) → which ≡ 2 → kind_by which ≡ direct
+kind_direct : (which : ℕ) → which ≡ 2 → kind_by which ≡ direct
 unfolding kind_by
 kind_direct which e = rw (eq-eqb which 2 e)
 
-pub kind_sorted : (which : ℕ) → (which ≡ 2 → ⊥) → kind_by which ≡ sorted
+kind_sorted : (which : ℕ) → (which ≡ 2 → ⊥) → kind_by which ≡ sorted
 unfolding kind_by
 kind_sorted which h = rw (ne_eqb which 2 h)
 
@@ -138,44 +140,51 @@ module _ (s : Poses) (v : Valid s) where
 
 -- ---- the test, as the slices tell it
 -- the threshold at positions that stand in an array
-pub limit_is : (m n rule : ℕ) (weights items scores : List ℕ) (which p : ℕ) (reach : List ℕ)
-    → ((i : ℕ) → i < m → get_or reach i 0 ≡ reach_by which (poses m n items scores) p i)
-    → limit_at rule weights m n reach scores ≡ threshold (poses m n items scores) (query_with rule weights) (reach_by which (poses m n items scores) p)
+pub limit_is : (r : Reading) (which p : ℕ) (reach : List ℕ) → ((i : ℕ) → i < r.set.lists → get_or reach i 0 ≡ reach_by which (set_of r.set) p i)
+    → limit_at (rule_number r.rule) r.weights.now r.set.lists r.set.poses reach r.set.scores.now
+    ≡ threshold (set_of r.set) (query_of r) (reach_by which (set_of r.set) p)
 unfolding limit_at threshold overall score
-limit_is m n rule weights items scores which p reach is =
-    joined_same rule (λ i. get_or scores (i * n + (get_or reach i 0 - 1)) 0 * get_or weights i 0)
-    (λ i. get_or scores (i * n + (reach_by which (poses m n items scores) p i - 1)) 0 * get_or weights i 0) m
+limit_is r which p reach is =
+    let s = set_of r.set in
+    let w = query_of r in
+    joined_same w.rule (λ i. get_or s.scores (i * s.n + (get_or reach i 0 - 1)) 0 * w.weight i)
+    (λ i. get_or s.scores (i * s.n + (reach_by which s p i - 1)) 0 * w.weight i) s.m
     (λ i hi. rw (is i hi))
 
-module _ {s : Poses} {q : Query} (which p : ℕ) {k filled : ℕ} {picks₀ lows₀ tally₀ picks lows marks : List ℕ} (at : State s q k (steps_by which s p) picks₀ lows₀ tally₀ filled picks lows marks) where
-  pub kept_is : kept s k (search_by which s q) p ≡ take k (ranking s q (steps_by which s p))
+module _ {s : Poses} {q : Query} (which p : ℕ) {picks₀ lows₀ tally₀ marks : List ℕ} {l : Shortlist}
+    (at : State s q (steps_by which s p) picks₀ lows₀ tally₀ l marks) where
+  pub kept_is : kept s l.count (search_by which s q) p ≡ take l.count (ranking s q (steps_by which s p))
   unfolding kept order search_by by_score ranking
   kept_is = refl
 
-  -- the last of k kept has the score that stands last
-  last_low : 1 ≤ k → k ≤ filled → get_or lows (k - 1) 0 ≡ total s q (last_of 0 (take k (ranking s q (steps_by which s p))))
+  -- the last of all places, where none is free, has the score that stands last
+  last_low : 1 ≤ l.count → l.count ≤ l.filled
+      → get_or l.lows.now (l.count - 1) 0 ≡ total s q (last_of 0 (take l.count (ranking s q (steps_by which s p))))
   last_low some full =
-      let l = ranking s q (steps_by which s p) in
-      let t = take k l in
-      let size = length-take k l in
-      let long : k ≤ length l = omega (arith, at.shortlist.filled_is) in
+      let k = l.count in
+      let ranked = ranking s q (steps_by which s p) in
+      let t = take k ranked in
+      let size = length-take k ranked in
+      let long : k ≤ length ranked = omega (arith, at.shortlist.filled_is) in
       let inside : k - 1 < length t = omega (arith, at.shortlist.filled_is) in
       let k_is : suc (k - 1) ≡ k = omega arith in
-      let last : last_of 0 t ≡ get_or l (k - 1) 0 = rw k_is at (last_at 0 l (k - 1) (omega arith)) in
+      let last : last_of 0 t ≡ get_or ranked (k - 1) 0 = rw k_is at (last_at 0 ranked (k - 1) (omega arith)) in
       rw (at.shortlist.shown.lows_are, last)
       (over_at (map (total s q) t) lows₀ (k - 1) 0 (rw length-map inside) ∙ map_at (total s q) t (k - 1) inside
-      ∙ ap (total s q) (get_or-take k l (k - 1) 0 (omega arith)))
+      ∙ ap (total s q) (get_or-take k ranked (k - 1) 0 (omega arith)))
 
-  pub stops_told : (limit : ℕ) → 1 ≤ k → limit ≡ threshold s q (reach_by which s p)
-      → (leb k filled && leb limit (get_or lows (k - 1) 0)) ≡ stops s k (search_by which s q) p
+  pub stops_told : (limit : ℕ) → limit ≡ threshold s q (reach_by which s p)
+      → (leb l.count l.filled && leb limit (get_or l.lows.now (l.count - 1) 0)) ≡ stops s l.count (search_by which s q) p
   unfolding stops search_by by_score
-  stops_told limit some e =
+  stops_told limit e =
+      let k = l.count in
+      let t = take k (ranking s q (steps_by which s p)) in
       rw (kept_is, at.shortlist.filled_is, e)
-      (by_cases (leb k (length (take k (ranking s q (steps_by which s p)))))
-      (λ (y : leb k (length (take k (ranking s q (steps_by which s p)))) ≡ true).
-      let full : k ≤ filled = omega (arith, leb-true k (length (take k (ranking s q (steps_by which s p)))) y, at.shortlist.filled_is) in
-      rw (y, last_low some full))
-      (λ (z : leb k (length (take k (ranking s q (steps_by which s p)))) ≡ false). rw z))
+      (by_cases (leb k (length t))
+      (λ (y : leb k (length t) ≡ true).
+      let full : k ≤ l.filled = omega (arith, leb-true k (length t) y, at.shortlist.filled_is) in
+      rw (y, last_low l.keeps.room.k_least full))
+      (λ (z : leb k (length t) ≡ false). rw z))
 
 -- the first row at which the search ends: by its own test, or because it is the last
 pub row_is : (s : Poses) (k : ℕ) (r : Search) (p : ℕ) → 1 ≤ p → p ≤ s.n
@@ -211,13 +220,13 @@ none_tallied : (s : Poses) → tally s [] ≡ replicate (s.m * s.n) 0
 unfolding tally
 none_tallied s = table_same (times []) (λ _ _. 0) s.n s.m (λ i p hi hp. times_none i p) ∙ table_zeros s.n s.m
 
-pub state_start : (s : Poses) (q : Query) (k : ℕ) (picks lows marks marks₀ : List ℕ)
+pub state_start : (s : Poses) (q : Query) (l : Shortlist) (marks marks₀ : List ℕ) → l.filled ≡ 0
     → marks ≡ replicate (s.m * s.n) 0 ++ drop (s.m * s.n) marks₀ → length marks ≡ length marks₀
-    → State s q k [] picks lows marks₀ 0 picks lows marks
+    → State s q [] l.picks.now l.lows.now marks₀ l marks
 unfolding over
-state_start s q k picks lows marks marks₀ e long =
+state_start s q l marks marks₀ none e long =
     record {
-      shortlist = rw (none_kept s q k) (listing_none (total s q) (total s q) picks lows lows);
+      shortlist = rw (none, none_kept s q l.count) (listing_none (total s q) (total s q) l.picks.now l.lows.now l.lows.now);
       tally_is = e ∙ rw (none_tallied s, length-replicate {A = ℕ} (s.m * s.n) 0);
       tally_as_long = long;
     }

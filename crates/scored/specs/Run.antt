@@ -9,10 +9,12 @@ use Rattle.model.specs.Words.{over}
 use Rattle.model.specs.Given.{Poses, Query, total}
 use Rattle.model.specs.Accesses.{Kind, sorted, direct, random, Access, rows_ta, rounds, best, made, tally}
 use Rattle.model.specs.Searches.{Search, kept, rows, threshold, by_score, TA, BPA, BPA2}
-use Rattle.meeting.specs.Clauses.{Readable}
-use Rattle.meeting.specs.declared.Done.{Done}
+use Rattle.poses.specs.Sets.{set_of}
+use Rattle.meeting.specs.Clauses.{query_of}
 use Rattle.meeting.specs.Shortlist.{Keeps}
-use Rattle.stepping.specs.declared.rows.Turn.{Turn}
+use Rattle.meeting.specs.declared.Found.{Found}
+use Rattle.meeting.specs.declared.Reading.{Reading}
+use Rattle.noting.specs.declared.shortlist.Shortlist.{Shortlist}
 use Rattle.stepping.specs.State.{Goes, Standing, VisitedUpTo}
 
 -- the accesses of the first p rows of TA and BPA, or rounds of BPA2
@@ -44,27 +46,26 @@ unfolding search_by steps_by reach_by BPA2
 search_bpa2 s q = refl
 
 -- After p rows or rounds, with more to come
-pub record Stepping (which p : ℕ) (s : Poses) (q : Query) (k filled : ℕ) (reach picks lows marks work : List ℕ) : Type 0 where
-  pub standing : Standing s q k (steps_by which s p) filled picks lows marks work
-  pub reached : VisitedUpTo s (steps_by which s p) reach
-  pub not_last : p < s.n
+pub record Stepping (which p : ℕ) (r : Reading) (reach : List ℕ) (l : Shortlist) (marks : List ℕ) : Type 0 where
+  pub standing : Standing r (steps_by which (set_of r.set) p) l marks
+  pub reached : VisitedUpTo (set_of r.set) (steps_by which (set_of r.set) p) reach
+  pub not_last : p < r.set.poses
 
--- One row or round more
-pub record Stepped (which p : ℕ) (s : Poses) (q : Query) (k filled : ℕ) (picks lows marks : List ℕ) (t : Turn) (picks' lows' marks' : List ℕ) : Type 0
-  where
-    pub goes : Goes s q k (steps_by which s p) (steps_by which s (p + 1)) filled picks lows marks t.filled picks' lows' marks'
-    pub reached : VisitedUpTo s (steps_by which s (p + 1)) t.best
-    pub counted : made (kind_by which) (steps_by which s (p + 1)) ≡ made (kind_by which) (steps_by which s p) + t.found
-    pub few : t.found ≤ s.m
+-- One row or round more, which finds `found` items
+pub record Stepped (which p : ℕ) (r : Reading) (l : Shortlist) (marks : List ℕ) (found : ℕ) (reach' : List ℕ) (l' : Shortlist) (marks' : List ℕ) :
+    Type 0 where
+  pub goes : Goes (set_of r.set) (query_of r) (steps_by which (set_of r.set) p) (steps_by which (set_of r.set) (p + 1)) l marks l' marks'
+  pub reached : VisitedUpTo (set_of r.set) (steps_by which (set_of r.set) (p + 1)) reach'
+  pub counted : made (kind_by which) (steps_by which (set_of r.set) (p + 1)) ≡ made (kind_by which) (steps_by which (set_of r.set) p) + found
+  pub few : found ≤ r.set.lists
 
--- Once the tests are passed, with room for k places and the tally
-pub record Running (s : Poses) (q : Query) (k : ℕ) (picks lows marks work : List ℕ) : Type 0 where
-  pub readable : Readable s q work
+-- There is room for k places and the tally
+pub record Running (s : Poses) (k : ℕ) (picks lows marks : List ℕ) : Type 0 where
   pub keeps : Keeps k 0 picks lows lows
   pub tally_long : s.m * s.n ≤ length marks
 
 -- The row at which the search stops, its accesses by kind, and over what was lent the first k items, their scores and the tally
-pub record RanBy (which : ℕ) (s : Poses) (q : Query) (k : ℕ) (picks₀ lows₀ tally₀ : List ℕ) (d : Done) (picks lows marks : List ℕ) : Type 0 where
+pub record RanBy (which : ℕ) (s : Poses) (q : Query) (k : ℕ) (picks₀ lows₀ tally₀ : List ℕ) (d : Found) (picks lows marks : List ℕ) : Type 0 where
   pub rows_are : d.rows ≡ rows s k (search_by which s q)
   pub sorted_are : d.sorted.0 ≡ made sorted (steps_by which s d.rows)
   pub direct_are : d.direct.0 ≡ made direct (steps_by which s d.rows)

@@ -2,93 +2,107 @@
 // and in those of the threshold, so one loop serves all three.
 #![tactic(auto)]
 
-ghost use Rattle.entries.specs.Clauses.{poses};
-ghost use Rattle.meeting.specs.Clauses.{query_with};
+ghost use Rattle.poses.specs.Sets.{set_of};
+ghost use Rattle.meeting.specs.Clauses.{query_of};
+ghost use Rattle.noting.specs.Shortlists.{IsSameShortlist};
 ghost use Rattle.scored.specs.Run.{Stepping, Stepped, Running, RanBy};
 
-use judging::{BPA2, counts, ends, places};
-use meeting::Done;
+use judging::{Bpa, Bpa2, Judged, Ta, ends};
+use meeting::{Accepted, Found};
+use noting::shortlist::Shortlist;
 use stepping::rows;
-use stepping::rows::Turn;
 use tallying::clear;
 
-// Row p of TA and BPA, counted from 0, or a round of BPA2.
-fn step(
-    which: u8,
-    p: usize,
-    m: usize,
-    n: usize,
-    rule: u8,
-    weights: [u32; 8],
-    k: usize,
-    filled: usize,
-    best: [usize; 8],
-    items: &[u16],
-    scores: &[u16],
-    picks: &mut [u16],
-    lows: &mut [u32],
-    tally: &mut [u8],
-    work: &[u16],
-) -> Turn
-    requires { Stepping which p (poses m n items.now scores.now) (query_with rule weights) k filled best
-        picks.old lows.old tally.old work.now }
-    ensures { Stepped which p (poses m n items.now scores.now)
-        (query_with rule weights) k filled picks.old lows.old tally.old result
-        picks.new lows.new tally.new }
-{
-    if which == BPA2 {
-        return rows::round(
-            m, n, rule, weights, k, filled, best, items, scores, picks, lows, tally, work,
-        );
-    }
-    let kept = rows::row(
-        p, m, n, rule, weights, k, filled, items, scores, picks, lows, tally, work,
-    );
-    Turn {
-        filled: kept,
-        found: m as u32,
-        best,
+/// A search by its rows or rounds.
+pub trait Scored: Judged {
+    /// Row or round p, counted from 0. Gives how many items it finds, and leaves in `best` positions up to which
+    /// all are visited.
+    fn step(
+        p: usize,
+        accepted: Accepted,
+        best: &mut [usize; 8],
+        shortlist: &mut Shortlist,
+        tally: &mut [u8],
+    ) -> u32
+        requires { Stepping Self.number p accepted.reading best.old shortlist.old tally.old }
+        ensures same { IsSameShortlist shortlist.old shortlist.new }
+        ensures steps { Stepped Self.number p accepted.entry.reading shortlist.old tally.old result
+            best.new shortlist.new tally.new };
+}
+
+impl Scored for Ta {
+    #[tactic(auto, using(crate::proofs::Running::row_reached, crate::proofs::Running::row_counted), unfolding(crate::specs::Run::steps_by, crate::specs::Run::kind_by))]
+    fn step(
+        p: usize,
+        accepted: Accepted,
+        _best: &mut [usize; 8],
+        shortlist: &mut Shortlist,
+        tally: &mut [u8],
+    ) -> u32 {
+        rows::row(p, accepted, shortlist, tally);
+        accepted.reading.set.lists as u32
     }
 }
 
-// The search by its number, once the tests are passed and the work slice holds the positions: the first k items
-// with their scores, and the tally, over what was lent.
-pub fn run(
-    which: u8,
-    m: usize,
-    n: usize,
-    rule: u8,
-    weights: [u32; 8],
-    k: usize,
-    items: &[u16],
-    scores: &[u16],
+impl Scored for Bpa {
+    #[tactic(auto, unfolding(crate::specs::Run::steps_by, crate::specs::Run::kind_by))]
+    fn step(
+        p: usize,
+        accepted: Accepted,
+        best: &mut [usize; 8],
+        shortlist: &mut Shortlist,
+        tally: &mut [u8],
+    ) -> u32 {
+        Ta::step(p, accepted, best, shortlist, tally)
+    }
+}
+
+impl Scored for Bpa2 {
+    #[tactic(auto, unfolding(crate::specs::Run::steps_by, crate::specs::Run::kind_by))]
+    fn step(
+        _p: usize,
+        accepted: Accepted,
+        best: &mut [usize; 8],
+        shortlist: &mut Shortlist,
+        tally: &mut [u8],
+    ) -> u32 {
+        rows::round(accepted, best, shortlist, tally)
+    }
+}
+
+/// A search, once its tests are passed: the first `count` items with their scores, and the tally, over what was
+/// lent.
+pub fn run<M: Scored>(
+    accepted: Accepted,
+    count: usize,
     picks: &mut [u16],
     lows: &mut [u32],
     tally: &mut [u8],
-    work: &[u16],
-) -> Done
-    requires { Running (poses m n items.now scores.now) (query_with rule weights) k picks.old
-        lows.old tally.old work.now }
-    ensures { RanBy which (poses m n items.now scores.now) (query_with rule weights)
-        k picks.old lows.old tally.old result picks.new
-        lows.new tally.new }
+) -> Found
+    requires { Running (set_of accepted.reading.set) count picks.old lows.old tally.old }
+    ensures { RanBy M.number (set_of accepted.entry.reading.set) (query_of accepted.entry.reading) count
+        picks.old lows.old tally.old result picks.new lows.new tally.new }
 {
-    clear(tally, m * n);
-    let mut best = [0usize; 8];
-    let mut filled = 0;
-    let mut found: u32 = 0;
-    let mut p = 0;
-    loop {
-        let t = step(
-            which, p, m, n, rule, weights, k, filled, best, items, scores, picks, lows, tally, work,
-        );
-        filled = t.filled;
-        found += t.found;
-        let reach = t.best;
-        p += 1;
-        best = places(which, p, m, n, reach, tally);
-        if ends(p, k, filled, rule, weights, m, n, best, scores, lows) {
-            return counts(which, p, m, found);
+    let reading = accepted.reading;
+    let set = reading.set;
+    clear(tally, set.lists * set.poses);
+    let mut best = [0; 8];
+    let mut shortlist = Shortlist {
+        count,
+        filled: 0,
+        picks,
+        lows,
+    };
+    let mut found = 0;
+    for p in 0..set.poses {
+        found += M::step(p, accepted, &mut best, &mut shortlist, tally);
+        let done = p + 1;
+        M::positions(done, set, &mut best, tally);
+        let last = shortlist.last_score();
+        if ends(done, reading, best, shortlist.count, shortlist.filled, last) {
+            return M::counts(done, set.lists, found);
         }
     }
+    // The last row or round ends every search.
+    unreachable!()
 }

@@ -1,158 +1,51 @@
-// The four searches by name, each the search of its number. That search, its answer and the answer's total are handed on, so
-// that a caller names this crate alone.
+//! The four searches by name. What a caller of them names beside is handed on: the search of a method, what a
+//! search is lent, and its answer in numbers.
 #![tactic(auto)]
 
 ghost use Rattle.model.specs.Searches.{TA, BPA, BPA2, NRA};
-ghost use Rattle.admission.specs.Clauses.{lent_with};
+ghost use Rattle.poses.specs.Sets.{lent_of, IsSameRoom};
+ghost use Rattle.answers.specs.Clauses.{answer_of};
 ghost use Rattle.answering.specs.Answered.{Searched};
 
 pub use answering::search;
-pub use answers::{Answer, total};
+pub use answers::Answer;
+pub use meeting::{Direct, Found, Random, Sorted};
+pub use poses::methods::Method;
+pub use poses::refusals::{Refusal, Spot};
+pub use poses::{PoseSet, Query, Room};
 
-// The threshold algorithm: rows by sorted access, each new item looked up in every other list.
-pub fn ta(
-    m: usize,
-    n: usize,
-    items: &[u16],
-    scores: &[u16],
-    rule: u8,
-    k: usize,
-    weights: &[u8],
-    picks: &mut [u16],
-    lows: &mut [u32],
-    highs: &mut [u32],
-    tally: &mut [u8],
-    work: &mut [u16],
-) -> Answer
-    ensures { Searched TA (lent_with m n rule k weights.now items.now
-        scores.now picks.old lows.old highs.old
-        tally.old work.old) result picks.new lows.new highs.new
-        tally.new work.new }
+/// The threshold algorithm: rows by sorted access, each item found looked up in every other list.
+pub fn ta(set: PoseSet, query: Query, room: &mut Room) -> Result<Found, Refusal>
+    ensures same { IsSameRoom room.old room.new }
+    ensures answer { Searched TA (lent_of set.entry query.entry room.old) (answer_of result)
+        room.new.picks.now room.new.lows.now room.new.highs.now room.new.tally.now room.new.work.now }
 {
-    search(
-        running::TA,
-        m,
-        n,
-        items,
-        scores,
-        rule,
-        k,
-        weights,
-        picks,
-        lows,
-        highs,
-        tally,
-        work,
-    )
+    search(Method::Ta, set, query, room)
 }
 
-// The best position algorithm: TA with the threshold at the lists' best positions.
-pub fn bpa(
-    m: usize,
-    n: usize,
-    items: &[u16],
-    scores: &[u16],
-    rule: u8,
-    k: usize,
-    weights: &[u8],
-    picks: &mut [u16],
-    lows: &mut [u32],
-    highs: &mut [u32],
-    tally: &mut [u8],
-    work: &mut [u16],
-) -> Answer
-    ensures { Searched BPA (lent_with m n rule k weights.now items.now
-        scores.now picks.old lows.old highs.old
-        tally.old work.old) result picks.new lows.new highs.new
-        tally.new work.new }
+/// The best position algorithm: TA with the threshold at the lists' best positions.
+pub fn bpa(set: PoseSet, query: Query, room: &mut Room) -> Result<Found, Refusal>
+    ensures same { IsSameRoom room.old room.new }
+    ensures answer { Searched BPA (lent_of set.entry query.entry room.old) (answer_of result)
+        room.new.picks.now room.new.lows.now room.new.highs.now room.new.tally.now room.new.work.now }
 {
-    search(
-        running::BPA,
-        m,
-        n,
-        items,
-        scores,
-        rule,
-        k,
-        weights,
-        picks,
-        lows,
-        highs,
-        tally,
-        work,
-    )
+    search(Method::Bpa, set, query, room)
 }
 
-// BPA2: each round reads the first position of a list that was not visited.
-pub fn bpa2(
-    m: usize,
-    n: usize,
-    items: &[u16],
-    scores: &[u16],
-    rule: u8,
-    k: usize,
-    weights: &[u8],
-    picks: &mut [u16],
-    lows: &mut [u32],
-    highs: &mut [u32],
-    tally: &mut [u8],
-    work: &mut [u16],
-) -> Answer
-    ensures { Searched BPA2 (lent_with m n rule k weights.now items.now
-        scores.now picks.old lows.old highs.old
-        tally.old work.old) result picks.new lows.new highs.new
-        tally.new work.new }
+/// BPA2: each round reads the first position of a list that was not visited.
+pub fn bpa2(set: PoseSet, query: Query, room: &mut Room) -> Result<Found, Refusal>
+    ensures same { IsSameRoom room.old room.new }
+    ensures answer { Searched BPA2 (lent_of set.entry query.entry room.old) (answer_of result)
+        room.new.picks.now room.new.lows.now room.new.highs.now room.new.tally.now room.new.work.now }
 {
-    search(
-        running::BPA2,
-        m,
-        n,
-        items,
-        scores,
-        rule,
-        k,
-        weights,
-        picks,
-        lows,
-        highs,
-        tally,
-        work,
-    )
+    search(Method::Bpa2, set, query, room)
 }
 
-// NRA: sorted accesses alone, and bounds of each item's score.
-pub fn nra(
-    m: usize,
-    n: usize,
-    items: &[u16],
-    scores: &[u16],
-    rule: u8,
-    k: usize,
-    weights: &[u8],
-    picks: &mut [u16],
-    lows: &mut [u32],
-    highs: &mut [u32],
-    tally: &mut [u8],
-    work: &mut [u16],
-) -> Answer
-    ensures { Searched NRA (lent_with m n rule k weights.now items.now
-        scores.now picks.old lows.old highs.old
-        tally.old work.old) result picks.new lows.new highs.new
-        tally.new work.new }
+/// NRA: sorted accesses alone, and bounds of each item's score.
+pub fn nra(set: PoseSet, query: Query, room: &mut Room) -> Result<Found, Refusal>
+    ensures same { IsSameRoom room.old room.new }
+    ensures answer { Searched NRA (lent_of set.entry query.entry room.old) (answer_of result)
+        room.new.picks.now room.new.lows.now room.new.highs.now room.new.tally.now room.new.work.now }
 {
-    search(
-        running::NRA,
-        m,
-        n,
-        items,
-        scores,
-        rule,
-        k,
-        weights,
-        picks,
-        lows,
-        highs,
-        tally,
-        work,
-    )
+    search(Method::Nra, set, query, room)
 }

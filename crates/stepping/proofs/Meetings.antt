@@ -27,11 +27,12 @@ use Rattle.laws.specs.Ahead.{ahead_ordering}
 use Rattle.laws.specs.Ranking.{among_at, ranked_same, ranked_more, ranked_among, take_insert}
 use Rattle.laws.specs.Kept.{take_among}
 use Rattle.laws.specs.Overall.{joined_same}
-use Rattle.entries.specs.Clauses.{poses}
-use Rattle.meeting.specs.Clauses.{query_with, read_at, unread}
+use Rattle.meeting.specs.Clauses.{query_of, view_of, bound_of, read_at, unread}
 use Rattle.meeting.specs.Shortlist.{Listing, Inserted}
+use Rattle.meeting.specs.declared.Reading.{Reading}
 use Rattle.noting.specs.Clauses.{visited_in, visited_once}
-use Rattle.stepping.specs.State.{ranking, State, Met}
+use Rattle.noting.specs.declared.shortlist.Shortlist.{Shortlist}
+use Rattle.stepping.specs.State.{ranking, State, set_with, Met}
 use Rattle.stepping.specs.Steps.{mark_at}
 
 module _ (s : Poses) (q : Query) (work : List ℕ) (v : Valid s) (w : Placed s work) where
@@ -119,9 +120,9 @@ module _ (s : Poses) (q : Query) (work : List ℕ) (v : Valid s) (w : Placed s w
           absurd (true≢false (sym in_it ∙ ranked_among (ahead (total s q) (total s q)) (met s tr) d s.n ∙ rw (lt-ltb d s.n hd, new))))
           (λ z. z)
 
-      module _ {k filled : ℕ} {picks₀ lows₀ tally₀ picks lows marks marks' : List ℕ} (at : State s q k tr picks₀ lows₀ tally₀ filled picks lows marks)
+      module _ {picks₀ lows₀ tally₀ marks marks' : List ℕ} {l : Shortlist} (at : State s q tr picks₀ lows₀ tally₀ l marks)
           (visits : marks' ≡ visited_once d s.m s.n work marks) (long : length marks' ≡ length marks) where
-        pub meets_again : met s tr d ≡ true → State s q k (tr ++ lookup s a i p) picks₀ lows₀ tally₀ filled picks lows marks'
+        pub meets_again : met s tr d ≡ true → State s q (tr ++ lookup s a i p) picks₀ lows₀ tally₀ l marks'
         meets_again old =
             record {
               shortlist = rw (ranking_old old) at.shortlist;
@@ -129,52 +130,51 @@ module _ (s : Poses) (q : Query) (work : List ℕ) (v : Valid s) (w : Placed s w
               tally_as_long = long ∙ at.tally_as_long;
             }
 
-        pub meets_new : {filled' : ℕ} {picks' lows' : List ℕ} → met s tr d ≡ false
-            → Listing (total s q) (total s q) (take k (insert (ahead (total s q) (total s q)) d (take k (ranking s q tr)))) picks₀ lows₀ lows₀ filled'
-            picks' lows' lows'
-            → State s q k (tr ++ lookup s a i p) picks₀ lows₀ tally₀ filled' picks' lows' marks'
-        meets_new new inserted =
+        pub meets_new : {l' : Shortlist} → l'.count ≡ l.count → met s tr d ≡ false
+            → Listing (total s q) (total s q) (take l.count (insert (ahead (total s q) (total s q)) d (take l.count (ranking s q tr)))) picks₀
+            lows₀ lows₀ l'.filled l'.picks.now l'.lows.now l'.lows.now
+            → State s q (tr ++ lookup s a i p) picks₀ lows₀ tally₀ l' marks'
+        meets_new same new inserted =
             record {
-              shortlist = rw (ranking_new new, take_insert (ahead (total s q) (total s q)) k d (ranking s q tr)) inserted;
+              shortlist = rw (same, ranking_new new, take_insert (ahead (total s q) (total s q)) l.count d (ranking s q tr)) inserted;
               tally_is = visits ∙ tally_after tr tally₀ at.tally_is a i p d hi hp found hd;
               tally_as_long = long ∙ at.tally_as_long;
             }
 
-module _ {m n rule k filled : ℕ} {weights scores picks lows marks marks' work : List ℕ} (d : ℕ) (small : d < n)
-    (visits : marks' ≡ visited_once d m n work marks) (long : length marks' ≡ length marks) where
-  pub met_again : (get_or marks (get_or work d 0 - 1) 0 ≡ 0 → ⊥)
-      → Met d m n rule k filled weights scores picks lows marks work filled picks lows marks'
+module _ {r : Reading} {l : Shortlist} {marks marks' : List ℕ} (d : ℕ) (small : d < r.set.poses)
+    (visits : marks' ≡ visited_once d r.set.lists r.set.poses r.places.now marks) (long : length marks' ≡ length marks) where
+  pub met_again : (get_or marks (get_or r.places.now d 0 - 1) 0 ≡ 0 → ⊥) → Met d r l marks l marks'
   met_again some =
       record {
         looks_up = λ items tr a i p v w whole hi hp found.
             record {
               step = λ picks₀ lows₀ tally₀ at.
-                  let s = poses m n items scores in
-                  let q = query_with rule weights in
+                  let s = set_with r items in
                   let old =
-                  met_told s q work v w tr tally₀ at.tally_is whole d small
-                  ∙ le-leb 1 (get_or marks (get_or work d 0 - 1) 0) (pos_of_ne-zero some) in
-                  meets_again s q work v w whole a i p d hi hp found small at visits long old;
+                  met_told s (query_of r) r.places.now v w tr tally₀ at.tally_is whole d small
+                  ∙ le-leb 1 (get_or marks (get_or r.places.now d 0 - 1) 0) (pos_of_ne-zero some) in
+                  meets_again s (query_of r) r.places.now v w whole a i p d hi hp found small at visits long old;
             };
       }
 
-  pub met_first : {filled' : ℕ} {picks' lows' : List ℕ} (x : ℕ) → get_or marks (get_or work d 0 - 1) 0 ≡ 0
-      → x ≡ joined rule (λ i. read_at n scores work d n (unread false n scores n) i * get_or weights i 0) m
-      → Inserted d x x k filled picks lows lows filled' picks' lows' lows'
-      → Met d m n rule k filled weights scores picks lows marks work filled' picks' lows' marks'
-  met_first x none is inserted =
+  pub met_first : {l' : Shortlist} (x : ℕ) → l'.count ≡ l.count → get_or marks (get_or r.places.now d 0 - 1) 0 ≡ 0
+      → x ≡ bound_of (view_of r) false r.set.poses d
+      → Inserted d x x l.count l.filled l.picks.now l.lows.now l.lows.now l'.filled l'.picks.now l'.lows.now l'.lows.now
+      → Met d r l marks l' marks'
+  unfolding bound_of
+  met_first x same none is inserted =
       record {
         looks_up = λ items tr a i p v w whole hi hp found.
             record {
               step = λ picks₀ lows₀ tally₀ at.
-                  let s = poses m n items scores in
-                  let q = query_with rule weights in
+                  let s = set_with r items in
+                  let q = query_of r in
                   let fresh =
-                  met_told s q work v w tr tally₀ at.tally_is whole d small
-                  ∙ lt-leb 1 (get_or marks (get_or work d 0 - 1) 0) (omega (arith, none)) in
-                  let score : x ≡ total s q d = is ∙ score_is s q work v w d small in
-                  meets_new s q work v w whole a i p d hi hp found small at visits long fresh
-                  (inserted.inserts (total s q) (total s q) (take k (ranking s q tr)) picks₀ lows₀ lows₀ score score
-                  (not_kept s q work v w whole a i p d hi hp found small k fresh) at.shortlist);
+                  met_told s q r.places.now v w tr tally₀ at.tally_is whole d small
+                  ∙ lt-leb 1 (get_or marks (get_or r.places.now d 0 - 1) 0) (omega (arith, none)) in
+                  let score : x ≡ total s q d = is ∙ score_is s q r.places.now v w d small in
+                  meets_new s q r.places.now v w whole a i p d hi hp found small at visits long same fresh
+                  (inserted.inserts (total s q) (total s q) (take l.count (ranking s q tr)) picks₀ lows₀ lows₀ score score
+                  (not_kept s q r.places.now v w whole a i p d hi hp found small l.count fresh) at.shortlist);
             };
       }

@@ -15,7 +15,7 @@ use lib.Dec.{eqb, ltb}
 use lib.ListN.{length, set}
 use lib.Seq.{get_or-set_same, get_or-set_other}
 use borrow.Author.Tests.{eqb-true, eqb-false, eq-eqb, ne_eqb, lt-ltb, le-ltb}
-use Rattle.model.specs.Given.{Poses, Query, item, place}
+use Rattle.model.specs.Given.{Poses, item, place}
 use Rattle.model.specs.Accesses.{direct, Access, lookup, next, round, rounds, times, visited, best, made}
 use Rattle.laws.specs.Tests.{by_cases}
 use Rattle.laws.specs.Accepted.{Valid}
@@ -24,6 +24,10 @@ use Rattle.laws.specs.Looked.{looked_whole}
 use Rattle.laws.specs.Lookups.{once, made_append, lookup_made_own}
 use Rattle.laws.specs.Visits.{best_free, best_wider}
 use Rattle.laws.specs.Rounds.{Turns, by_turn, visited_next, round_turns, rounds_turns, unvisited_item}
+use Rattle.poses.specs.Sets.{set_of}
+use Rattle.meeting.specs.Clauses.{query_of}
+use Rattle.meeting.specs.declared.Reading.{Reading}
+use Rattle.noting.specs.declared.shortlist.Shortlist.{Shortlist}
 use Rattle.stepping.specs.State.{Goes, VisitedUpTo}
 use Rattle.stepping.specs.Steps.{goes_none, goes_on}
 
@@ -47,16 +51,15 @@ module _ (s : Poses) (tr : List Access) (i : ℕ) where
   best_grows j = best_wider s tr (next s tr i) j (λ q hq y. visited_next s tr i j q y)
 
 -- After the turns at the first i lists of a round: where the slices stand, how far each list was visited, the direct accesses made
-pub record RoundPart (s : Poses) (q : Query) (k r i filled : ℕ) (picks₀ lows₀ marks₀ : List ℕ) (kept : ℕ) (picks lows marks reach : List ℕ)
-    (found : ℕ) : Type 0 where
-  pub goes : Goes s q k (rounds s r) (round s (rounds s r) i) filled picks₀ lows₀ marks₀ kept picks lows marks
-  pub reached : VisitedUpTo s (round s (rounds s r) i) reach
-  pub counted : made direct (round s (rounds s r) i) ≡ made direct (rounds s r) + found
+pub record RoundPart (r : Reading) (x i : ℕ) (l₀ : Shortlist) (marks₀ : List ℕ) (l : Shortlist) (marks reach : List ℕ) (found : ℕ) : Type 0 where
+  pub goes : Goes (set_of r.set) (query_of r) (rounds (set_of r.set) x) (round (set_of r.set) (rounds (set_of r.set) x) i) l₀ marks₀ l marks
+  pub reached : VisitedUpTo (set_of r.set) (round (set_of r.set) (rounds (set_of r.set) x) i) reach
+  pub counted : made direct (round (set_of r.set) (rounds (set_of r.set) x) i) ≡ made direct (rounds (set_of r.set) x) + found
 
-pub part_none : {s : Poses} {q : Query} {k r filled : ℕ} {picks lows marks reach : List ℕ}
-    → VisitedUpTo s (rounds s r) reach → RoundPart s q k r 0 filled picks lows marks filled picks lows marks reach 0
+pub part_none : {r : Reading} {x : ℕ} {l : Shortlist} {marks reach : List ℕ}
+    → VisitedUpTo (set_of r.set) (rounds (set_of r.set) x) reach → RoundPart r x 0 l marks l marks reach 0
 unfolding round
-part_none {s} {r = r} reached = record { goes = goes_none (rounds s r); reached = reached; counted = omega arith }
+part_none {r} {x} reached = record { goes = goes_none (rounds (set_of r.set) x); reached = reached; counted = omega arith }
 
 -- in the middle of a round the accesses are whole lookups, each of another item
 pub part_turns : (s : Poses) (v : Valid s) (r i : ℕ) → i ≤ s.m → Turns s v (round s (rounds s r) i)
@@ -76,14 +79,19 @@ part_count s v r i b j hi e hb hj =
     let none = unvisited_item s v tr i b hi hb whole free in
     omega (arith, whole.alike j (item s i b) hj small)
 
-module _ {s : Poses} {q : Query} {k r i filled kept : ℕ} {picks₀ lows₀ marks₀ picks lows marks reach : List ℕ} {found : ℕ} (p : RoundPart s q k r i filled picks₀ lows₀ marks₀ kept picks lows marks reach found) where
-  pub part_more : (b : ℕ) {kept' : ℕ} {picks' lows' marks' : List ℕ} → i < s.m → i < length reach
-      → b ≡ best s (round s (rounds s r) i) i
-      → Goes s q k (round s (rounds s r) i) (next s (round s (rounds s r) i) i) kept picks lows marks kept' picks' lows' marks'
-      → RoundPart s q k r (i + 1) filled picks₀ lows₀ marks₀ kept' picks' lows' marks' (set reach i b) (found + once (ltb b s.n))
+module _ {r : Reading} {x i : ℕ} {l₀ l : Shortlist} {marks₀ marks reach : List ℕ} {found : ℕ}
+    (p : RoundPart r x i l₀ marks₀ l marks reach found) where
+  abbrev s : Poses
+  s = set_of r.set
+
+  abbrev tr : List Access
+  tr = round s (rounds s x) i
+
+  pub part_more : (b : ℕ) {l' : Shortlist} {marks' : List ℕ} → i < s.m → i < length reach → b ≡ best s tr i
+      → Goes s (query_of r) tr (next s tr i) l marks l' marks'
+      → RoundPart r x (i + 1) l₀ marks₀ l' marks' (set reach i b) (found + once (ltb b s.n))
   unfolding round
   part_more b hi inside e turn =
-      let tr = round s (rounds s r) i in
       rw (add-one i)
       (record {
         goes = goes_on p.goes turn;

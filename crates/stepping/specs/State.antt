@@ -1,9 +1,9 @@
 -- The state of TA, BPA and BPA2: the slices, against the accesses made so far.
 --     ranking            the items met, by score falling, then item rising
---     State              the shortlist's slices hold the first k of them with their scores, and the tally slice the tally
+--     State              the shortlist holds the first of them with their scores, and the tally slice the tally
 --     Goes               a step: whatever was lent, from the state after some accesses to the state after more
---     Meeting, Met       what meeting an item asks and promises
---     Standing           the state after some accesses, over the slices themselves, with all that may be read
+--     Meeting, Met       what meeting an item asks and promises; `set_with` are the lists with whatever items
+--     Standing           the state after some accesses, over the slices themselves
 --     Looking, Turned    what a turn of BPA2 at a list asks and promises
 --     VisitedUpTo        positions up to which each list was visited
 --     Rounding, Rounded  what a round of BPA2 asks and promises
@@ -15,82 +15,79 @@ use Rattle.model.specs.Accesses.{Kind, direct, Access, lookup, next, rounds, met
 use Rattle.model.specs.Searches.{ahead, ranked}
 use Rattle.laws.specs.Accepted.{Valid, Placed}
 use Rattle.laws.specs.Meetings.{Whole}
-use Rattle.entries.specs.Clauses.{poses}
-use Rattle.meeting.specs.Clauses.{query_with, Readable, Located, Small}
-use Rattle.meeting.specs.Shortlist.{Keeps, Listing}
+use Rattle.poses.specs.Sets.{set_of}
+use Rattle.meeting.specs.Clauses.{query_of, Located, Small}
+use Rattle.meeting.specs.Shortlist.{Listing}
+use Rattle.meeting.specs.declared.Reading.{Reading}
 use Rattle.noting.specs.Clauses.{Visitable}
-use Rattle.stepping.specs.declared.rows.Turn.{Turn}
+use Rattle.noting.specs.declared.shortlist.Shortlist.{Shortlist}
 
 -- the items met, by score falling, then item rising
 unfoldable pub ranking : Poses → Query → List Access → List ℕ
 ranking s q tr = ranked (ahead (total s q) (total s q)) (met s tr) s.n
 
--- After the accesses tr, over what was lent: the first k items met with their scores, and the tally
-pub record State (s : Poses) (q : Query) (k : ℕ) (tr : List Access) (picks₀ lows₀ tally₀ : List ℕ) (filled : ℕ) (picks lows marks : List ℕ) : Type 0
-  where
-    pub shortlist : Listing (total s q) (total s q) (take k (ranking s q tr)) picks₀ lows₀ lows₀ filled picks lows lows
-    pub tally_is : marks ≡ over (tally s tr) tally₀
-    pub tally_as_long : length marks ≡ length tally₀
+-- After the accesses tr, over what was lent: the shortlist holds the first of the items met with their scores, the tally slice the tally
+pub record State (s : Poses) (q : Query) (tr : List Access) (picks₀ lows₀ tally₀ : List ℕ) (l : Shortlist) (marks : List ℕ) : Type 0 where
+  pub shortlist : Listing (total s q) (total s q) (take l.count (ranking s q tr)) picks₀ lows₀ lows₀ l.filled l.picks.now l.lows.now l.lows.now
+  pub tally_is : marks ≡ over (tally s tr) tally₀
+  pub tally_as_long : length marks ≡ length tally₀
 
 -- A step, whatever was lent: from the state after tr to the state after tr'
-pub record Goes (s : Poses) (q : Query) (k : ℕ) (tr tr' : List Access) (filled : ℕ) (picks lows marks : List ℕ) (filled' : ℕ)
-    (picks' lows' marks' : List ℕ) : Type 0 where
-  pub step : (picks₀ lows₀ tally₀ : List ℕ) → State s q k tr picks₀ lows₀ tally₀ filled picks lows marks
-      → State s q k tr' picks₀ lows₀ tally₀ filled' picks' lows' marks'
+pub record Goes (s : Poses) (q : Query) (tr tr' : List Access) (l : Shortlist) (marks : List ℕ) (l' : Shortlist) (marks' : List ℕ) : Type 0 where
+  pub step : (picks₀ lows₀ tally₀ : List ℕ) → State s q tr picks₀ lows₀ tally₀ l marks → State s q tr' picks₀ lows₀ tally₀ l' marks'
 
--- Item d has a position in each of m lists, and there is room for a visit and for a place in the shortlist
-pub record Meeting (d m n k filled : ℕ) (weights scores picks lows marks work : List ℕ) : Type 0 where
-  pub m_least : 1 ≤ m
-  pub located : Located m n d n scores work
-  pub small : Small weights scores
-  pub visitable : Visitable d m n marks work
-  pub keeps : Keeps k filled picks lows lows
+-- Item d has a position in each list, and there is room for a visit
+pub record Meeting (d : ℕ) (r : Reading) (marks : List ℕ) : Type 0 where
+  pub m_least : 1 ≤ r.set.lists
+  pub located : Located r.set.lists r.set.poses d r.set.poses r.set.scores.now r.places.now
+  pub small : Small r.weights.now r.set.scores.now
+  pub visitable : Visitable d r.set.lists r.set.poses marks r.places.now
+
+-- what a search reads, with these items in its lists
+abbrev pub set_with : Reading → List ℕ → Poses
+set_with r items = record { m = r.set.lists; n = r.set.poses; items = items; scores = r.set.scores.now }
 
 -- Item d, wherever it was found: one lookup more
-pub record Met (d m n rule k filled : ℕ) (weights scores picks lows marks work : List ℕ) (filled' : ℕ) (picks' lows' marks' : List ℕ) : Type 0 where
-  pub looks_up : (items : List ℕ) (tr : List Access) (a : Kind) (i p : ℕ) → Valid (poses m n items scores)
-      → Placed (poses m n items scores) work → Whole (poses m n items scores) tr → i < m → p < n
-      → item (poses m n items scores) i p ≡ d
-      → Goes (poses m n items scores) (query_with rule weights) k tr (tr ++ lookup (poses m n items scores) a i p) filled picks lows marks filled'
-      picks' lows' marks'
+pub record Met (d : ℕ) (r : Reading) (l : Shortlist) (marks : List ℕ) (l' : Shortlist) (marks' : List ℕ) : Type 0 where
+  pub looks_up : (items : List ℕ) (tr : List Access) (a : Kind) (i p : ℕ) → Valid (set_with r items)
+      → Placed (set_with r items) r.places.now → Whole (set_with r items) tr → i < r.set.lists → p < r.set.poses
+      → item (set_with r items) i p ≡ d
+      → Goes (set_with r items) (query_of r) tr (tr ++ lookup (set_with r items) a i p) l marks l' marks'
 
--- Between two steps: all that may be read, the state after tr over the slices themselves, and room for more
-pub record Standing (s : Poses) (q : Query) (k : ℕ) (tr : List Access) (filled : ℕ) (picks lows marks work : List ℕ) : Type 0 where
-  pub readable : Readable s q work
-  pub keeps : Keeps k filled picks lows lows
-  pub tally_long : s.m * s.n ≤ length marks
-  pub state : State s q k tr picks lows marks filled picks lows marks
+-- Between two steps: the state after tr over the slices themselves, and room for more
+pub record Standing (r : Reading) (tr : List Access) (l : Shortlist) (marks : List ℕ) : Type 0 where
+  pub tally_long : r.set.lists * r.set.poses ≤ length marks
+  pub state : State (set_of r.set) (query_of r) tr l.picks.now l.lows.now marks l marks
 
--- List i lies within the slices; where b is a position, there is room to meet the item that stands there
-pub record Looking (i b : ℕ) (s : Poses) (k filled : ℕ) (weights picks lows marks work : List ℕ) : Type 0 where
-  pub list_within : i < s.m
-  pub at_most : b ≤ s.n
-  pub items_long : s.m * s.n ≤ length s.items
-  pub meeting : b < s.n → Meeting (item s i b) s.m s.n k filled weights s.scores picks lows marks work
+-- List i lies within the slices; where b is a position, the item that stands there can be met
+pub record Looking (i b : ℕ) (r : Reading) (marks : List ℕ) : Type 0 where
+  pub list_within : i < r.set.lists
+  pub at_most : b ≤ r.set.poses
+  pub items_long : r.set.lists * r.set.poses ≤ length r.set.items.now
+  pub meeting : b < r.set.poses → Meeting (item (set_of r.set) i b) r marks
 
 -- Whatever was visited so far, where b is list i's best position: BPA2's turn at list i
-pub record Turned (i b : ℕ) (s : Poses) (q : Query) (k filled : ℕ) (picks lows marks work : List ℕ) (filled' : ℕ) (picks' lows' marks' : List ℕ) :
-    Type 0 where
-  pub turns : (tr : List Access) → Valid s → Placed s work → Whole s tr → b ≡ best s tr i
-      → Goes s q k tr (next s tr i) filled picks lows marks filled' picks' lows' marks'
+pub record Turned (i b : ℕ) (r : Reading) (l : Shortlist) (marks : List ℕ) (l' : Shortlist) (marks' : List ℕ) : Type 0 where
+  pub turns : (tr : List Access) → Valid (set_of r.set) → Placed (set_of r.set) r.places.now → Whole (set_of r.set) tr
+      → b ≡ best (set_of r.set) tr i → Goes (set_of r.set) (query_of r) tr (next (set_of r.set) tr i) l marks l' marks'
 
 -- Each list was visited up to the position that stands for it
 abbrev pub VisitedUpTo : Poses → List Access → List ℕ → Type 0
 VisitedUpTo s tr reach = (i : ℕ) → i < s.m → get_or reach i 0 ≤ best s tr i
 
 -- After some number of rounds
-pub record Rounding (s : Poses) (q : Query) (k filled : ℕ) (reach picks lows marks work : List ℕ) : Type 0 where
+pub record Rounding (r : Reading) (reach : List ℕ) (l : Shortlist) (marks : List ℕ) : Type 0 where
   pub done : ℕ
-  pub standing : Standing s q k (rounds s done) filled picks lows marks work
-  pub reached : VisitedUpTo s (rounds s done) reach
+  pub standing : Standing r (rounds (set_of r.set) done) l marks
+  pub reached : VisitedUpTo (set_of r.set) (rounds (set_of r.set) done) reach
 
--- After however many rounds the slices stand: one round more
-pub record Rounded (s : Poses) (q : Query) (k filled : ℕ) (reach picks lows marks work : List ℕ) (t : Turn) (picks' lows' marks' : List ℕ) : Type 0
-  where
-    pub goes : (r : ℕ) → Standing s q k (rounds s r) filled picks lows marks work → VisitedUpTo s (rounds s r) reach
-        → Goes s q k (rounds s r) (rounds s (r + 1)) filled picks lows marks t.filled picks' lows' marks'
-    pub reached : (r : ℕ) → Standing s q k (rounds s r) filled picks lows marks work → VisitedUpTo s (rounds s r) reach
-        → VisitedUpTo s (rounds s (r + 1)) t.best
-    pub counted : (r : ℕ) → Standing s q k (rounds s r) filled picks lows marks work → VisitedUpTo s (rounds s r) reach
-        → made direct (rounds s (r + 1)) ≡ made direct (rounds s r) + t.found
-    pub few : t.found ≤ s.m
+-- After however many rounds the slices stand: one round more, of `found` direct accesses
+pub record Rounded (r : Reading) (reach : List ℕ) (l : Shortlist) (marks : List ℕ) (found : ℕ) (reach' : List ℕ) (l' : Shortlist)
+    (marks' : List ℕ) : Type 0 where
+  pub goes : (x : ℕ) → Standing r (rounds (set_of r.set) x) l marks → VisitedUpTo (set_of r.set) (rounds (set_of r.set) x) reach
+      → Goes (set_of r.set) (query_of r) (rounds (set_of r.set) x) (rounds (set_of r.set) (x + 1)) l marks l' marks'
+  pub reached : (x : ℕ) → Standing r (rounds (set_of r.set) x) l marks → VisitedUpTo (set_of r.set) (rounds (set_of r.set) x) reach
+      → VisitedUpTo (set_of r.set) (rounds (set_of r.set) (x + 1)) reach'
+  pub counted : (x : ℕ) → Standing r (rounds (set_of r.set) x) l marks → VisitedUpTo (set_of r.set) (rounds (set_of r.set) x) reach
+      → made direct (rounds (set_of r.set) (x + 1)) ≡ made direct (rounds (set_of r.set) x) + found
+  pub few : found ≤ r.set.lists

@@ -1,179 +1,86 @@
 // One step of a search: an item is met, a row is read, a round is run.
-ghost use Rattle.std.specs.Prelude.{◌≡◌, ◌+◌, ◌*◌, ◌<◌, ltb};
+ghost use Rattle.std.specs.Prelude.{◌+◌, ◌<◌};
 ghost use Rattle.model.specs.Accesses.{rows_ta};
-ghost use Rattle.laws.specs.Lookups.{once};
-ghost use Rattle.entries.specs.Clauses.{poses};
-ghost use Rattle.meeting.specs.Clauses.{query_with};
+ghost use Rattle.poses.specs.Sets.{set_of};
+ghost use Rattle.meeting.specs.Clauses.{query_of};
+ghost use Rattle.noting.specs.Shortlists.{IsSameShortlist};
 ghost use Rattle.stepping.specs.State.{Meeting, Met, Goes, Standing, Looking, Turned, Rounding, Rounded};
 
-use entries::wide;
-use noting::{shortlist, visits};
+use meeting::{Accepted, Reading};
+use noting::shortlist::Shortlist;
+use noting::visits;
 
-// Item d is found: one visit of its position in every list and, where it is new, its score and its place
-// in the shortlist. It is new where list 1 was never visited at its position. Gives how many are kept then.
-#[tactic(auto, using(crate::proofs::Meetings::met_again))]
-pub fn meet(
-    d: u16,
-    m: usize,
-    n: usize,
-    rule: u8,
-    weights: [u32; 8],
-    k: usize,
-    filled: usize,
-    scores: &[u16],
-    picks: &mut [u16],
-    lows: &mut [u32],
-    tally: &mut [u8],
-    work: &[u16],
-) -> usize
-    requires { Meeting d m n k filled weights scores.now picks.old lows.old tally.old work.now }
-    ensures { Met d m n rule k filled weights scores.now picks.old
-        lows.old tally.old work.now result picks.new lows.new
-        tally.new }
+/// Item d is found: one visit of its position in every list and, where it is new, its score and its place in the
+/// shortlist. It is new where list 1 was never visited at its position.
+#[tactic(auto, using(crate::proofs::Meetings::met_again, crate::proofs::Meetings::met_first))]
+pub fn meet(d: u16, reading: Reading, shortlist: &mut Shortlist, tally: &mut [u8])
+    requires { Meeting d reading tally.old }
+    ensures same { IsSameShortlist shortlist.old shortlist.new }
+    ensures meets { Met d reading.entry shortlist.old tally.old shortlist.new tally.new }
 {
-    let item = wide(d);
-    let place = wide(work[item]);
-    let first = place - 1;
+    let item = usize::from(d);
+    let first = usize::from(reading.places[item]) - 1;
     let times = tally[first];
-    visits::visit(item, m, n, tally, work);
+    visits::visit(item, reading, tally);
     if times != 0 {
-        return filled;
+        return;
     }
-    let x = meeting::bound(false, item, n, m, n, rule, &weights, scores, work);
-    shortlist::keep(d, x, k, filled, picks, lows)
+    let x = reading.bound(false, item, reading.set.poses);
+    shortlist.keep(d, x);
 }
 
-// Row p, counted from 0: in each list the item at position p is met. Gives how many are kept then.
-pub fn row(
-    p: usize,
-    m: usize,
-    n: usize,
-    rule: u8,
-    weights: [u32; 8],
-    k: usize,
-    filled: usize,
-    items: &[u16],
-    scores: &[u16],
-    picks: &mut [u16],
-    lows: &mut [u32],
-    tally: &mut [u8],
-    work: &[u16],
-) -> usize
-    requires { Standing (poses m n items.now scores.now) (query_with rule weights) k
-        (rows_ta (poses m n items.now scores.now) p) filled picks.old lows.old tally.old work.now
-        × (p < n) }
-    ensures { Goes (poses m n items.now scores.now) (query_with rule weights) k
-        (rows_ta (poses m n items.now scores.now) p)
-        (rows_ta (poses m n items.now scores.now) (p + 1)) filled picks.old
-        lows.old tally.old result picks.new lows.new tally.new }
+/// Row p, counted from 0: in each list the item at position p is met.
+pub fn row(p: usize, accepted: Accepted, shortlist: &mut Shortlist, tally: &mut [u8])
+    requires { Standing accepted.reading (rows_ta (set_of accepted.reading.set) p) shortlist.old tally.old
+        × (p < accepted.reading.set.poses) }
+    ensures same { IsSameShortlist shortlist.old shortlist.new }
+    ensures goes { let s = set_of accepted.entry.reading.set in
+        Goes s (query_of accepted.entry.reading) (rows_ta s p) (rows_ta s (p + 1)) shortlist.old tally.old
+        shortlist.new tally.new }
 {
-    let mut kept = filled;
-    let mut i = 0;
-    while i < m {
-        let base = i * n;
-        let at = base + p;
-        let d = items[at];
-        kept = meet(
-            d, m, n, rule, weights, k, kept, scores, picks, lows, tally, work,
-        );
-        i += 1;
+    let reading = accepted.reading;
+    for i in 0..reading.set.lists {
+        let d = reading.set.items[i * reading.set.poses + p];
+        meet(d, reading, shortlist, tally);
     }
-    kept
 }
 
-// A turn of BPA2 at list i, whose best position is b: the item at the next position is met, unless b is n.
-fn look(
-    i: usize,
-    b: usize,
-    m: usize,
-    n: usize,
-    rule: u8,
-    weights: [u32; 8],
-    k: usize,
-    filled: usize,
-    items: &[u16],
-    scores: &[u16],
-    picks: &mut [u16],
-    lows: &mut [u32],
-    tally: &mut [u8],
-    work: &[u16],
-) -> usize
-    requires { Looking i b (poses m n items.now scores.now) k filled weights picks.old lows.old
-        tally.old work.now }
-    ensures { Turned i b (poses m n items.now scores.now)
-        (query_with rule weights) k filled picks.old lows.old tally.old
-        work.now result picks.new lows.new tally.new }
+/// A turn of BPA2 at list i, whose best position is b: the item at the next position is met, unless b is the last.
+#[tactic(auto, unfolding(model::specs::Given::item))]
+fn look(i: usize, b: usize, reading: Reading, shortlist: &mut Shortlist, tally: &mut [u8])
+    requires { Looking i b reading tally.old }
+    ensures same { IsSameShortlist shortlist.old shortlist.new }
+    ensures turns { Turned i b reading.entry shortlist.old tally.old shortlist.new tally.new }
 {
-    if b == n {
-        return filled;
+    if b == reading.set.poses {
+        return;
     }
-    let base = i * n;
-    let at = base + b;
-    let d = items[at];
-    meet(
-        d, m, n, rule, weights, k, filled, scores, picks, lows, tally, work,
-    )
+    let d = reading.set.items[i * reading.set.poses + b];
+    meet(d, reading, shortlist, tally);
 }
 
-// How many direct accesses a turn makes at a list whose best position is b.
-fn looked(b: usize, n: usize) -> u32
-    ensures { result ≡ once (ltb b n) }
-{
-    if b < n {
-        return 1;
-    }
-    0
-}
-
-// What a round leaves: how many are kept, how many direct accesses it made, and a position of each list up to
-// which all are visited.
-#[derive(Clone, Copy)]
-pub struct Turn {
-    pub filled: usize,
-    pub found: u32,
-    pub best: [usize; 8],
-}
-
-// A round of BPA2: for each list its best position as it is now, earlier lists of this round included, and a
-// turn there. Up to best[i] all positions of list i were visited before.
+/// A round of BPA2: for each list its best position as it is now, earlier lists of this round included, and a
+/// turn there. Up to best[i] all positions of list i were visited before, and so they are afterwards. Gives how
+/// many direct accesses it made.
 pub fn round(
-    m: usize,
-    n: usize,
-    rule: u8,
-    weights: [u32; 8],
-    k: usize,
-    filled: usize,
-    best: [usize; 8],
-    items: &[u16],
-    scores: &[u16],
-    picks: &mut [u16],
-    lows: &mut [u32],
+    accepted: Accepted,
+    best: &mut [usize; 8],
+    shortlist: &mut Shortlist,
     tally: &mut [u8],
-    work: &[u16],
-) -> Turn
-    requires { Rounding (poses m n items.now scores.now) (query_with rule weights) k filled best
-        picks.old lows.old tally.old work.now }
-    ensures { Rounded (poses m n items.now scores.now) (query_with rule weights) k
-        filled best picks.old lows.old tally.old work.now result
-        picks.new lows.new tally.new }
+) -> u32
+    requires { Rounding accepted.reading best.old shortlist.old tally.old }
+    ensures same { IsSameShortlist shortlist.old shortlist.new }
+    ensures rounds { Rounded accepted.entry.reading best.old shortlist.old tally.old result best.new
+        shortlist.new tally.new }
 {
-    let mut kept = filled;
-    let mut found: u32 = 0;
-    let mut next = best;
-    let mut i = 0;
-    while i < m {
-        let from = next[i];
-        let b = visits::walk_on(i, m, n, from, tally);
-        next[i] = b;
-        found += looked(b, n);
-        kept = look(
-            i, b, m, n, rule, weights, k, kept, items, scores, picks, lows, tally, work,
-        );
-        i += 1;
+    let reading = accepted.reading;
+    let mut found = 0;
+    for i in 0..reading.set.lists {
+        let from = best[i];
+        let b = visits::walk_on(i, reading.set, from, tally);
+        best[i] = b;
+        found += u32::from(b < reading.set.poses);
+        look(i, b, reading, shortlist, tally);
     }
-    Turn {
-        filled: kept,
-        found,
-        best: next,
-    }
+    found
 }

@@ -1,5 +1,3 @@
 -- Laws that the proofs of this crate cite.
---     Found        one number more, where one that passes a test is looked for
---     Most         one number more, where the greatest is kept
-mod Found
+--     Most         the greatest of some numbers
 mod Most

@@ -1,57 +1,32 @@
--- One number more, where the greatest is kept.
---     GreatestOf             the greatest of the first q numbers
---     greatest_start         of none
---     greatest_here          the next is greater than those before it
---     greatest_before        it is not, so that what was greatest stands
---     greatest_next          it is or it is not
+-- The greatest of some numbers, as `max` picks it.
+--     greatest_picked        one of the numbers that none is above is the greatest, and so is 0 where none is above it
 -- Assumes nothing.
-use mathlib.Core.Path.{◌≡◌, sym, ◌∙◌}
-use mathlib.Core.Bool.{true, false, or-false, or-true}
-use mathlib.Core.List.{List}
-use Prim.Native.Nat.{ℕ, ◌+◌, ◌≤◌, ◌<◌}
-use native.Mathlib.Numerals.{add-one}
-use native.Mathlib.Omega.{arith}
-use lib.Dec.{ltb}
-use lib.ListN.{get_or}
-use borrow.Author.Tests.{ltb-true, ltb-false, lt-ltb, le-ltb}
+use Rattle.std.specs.Prelude.{EachIndex, Contains}
+use Rattle.std.proofs.Common.{◌≡◌, sym, ◌∙◌, Bool, true, false, List, ℕ, ◌≤◌, ◌⊎◌, ⊎_elim, ltb, length, get_or, arith, ltb-true, ltb-false, le-ltb}
+use Rattle.std.proofs.lemmas.List.{get_or_default}
 use Rattle.model.specs.Words.{some_below}
-use Rattle.laws.specs.Tests.{by_cases}
+use Rattle.laws.specs.Tests.{by_cases, some_hit, some_none}
+use Rattle.sweeps.specs.Clauses.{Greatest}
 
-module _ (numbers : List ℕ) where
-  abbrev pub GreatestOf : ℕ → ℕ → Type 0
-  GreatestOf q most = (bar : ℕ) → ltb bar most ≡ some_below (λ p. ltb bar (get_or numbers p 0)) q
+module _ (numbers : List ℕ) (most : ℕ) where
+  -- one of the numbers is above the bar
+  abbrev some_above : ℕ → Bool
+  some_above bar = some_below (λ q. ltb bar (get_or numbers q 0)) (length numbers)
 
-  pub greatest_start : GreatestOf 0 0
-  unfolding some_below
-  greatest_start bar = le-ltb bar 0 (omega arith)
+  found_above : (bar : ℕ) → ltb bar most ≡ true → Contains numbers most → some_above bar ≡ true
+  found_above bar y at =
+      let there : get_or numbers at.0 0 ≡ most = get_or_default numbers at.0 0 most at.1 ∙ at.2 in
+      some_hit (λ q. ltb bar (get_or numbers q 0)) (length numbers) at.0 at.1 (rw there y)
 
-  module _ (q : ℕ) {before : ℕ} (so : GreatestOf q before) where
-    pub greatest_here : before < get_or numbers q 0 → GreatestOf (q + 1) (get_or numbers q 0)
-    unfolding some_below
-    greatest_here above bar =
-        let next = get_or numbers q 0 in
-        by_cases (ltb bar next)
-        (λ (y : ltb bar next ≡ true). rw (add-one q, y, or-true))
-        (λ (z : ltb bar next ≡ false).
-        let least : before ≤ bar = omega (arith, ltb-false bar next z) in
-        rw (add-one q, z, or-false) (sym (le-ltb bar before least) ∙ so bar))
-
-    pub greatest_before : get_or numbers q 0 ≤ before → GreatestOf (q + 1) before
-    unfolding some_below
-    greatest_before below bar =
-        let next = get_or numbers q 0 in
-        by_cases (ltb bar next)
-        (λ (y : ltb bar next ≡ true).
-        rw (add-one q, y, or-true) (lt-ltb bar before (omega (arith, ltb-true bar next y))))
-        (λ (z : ltb bar next ≡ false). rw (add-one q, z, or-false) (so bar))
-
-    pub greatest_next : {after : ℕ} → (before < get_or numbers q 0 → after ≡ get_or numbers q 0)
-        → (get_or numbers q 0 ≤ before → after ≡ before) → GreatestOf (q + 1) after
-    greatest_next here elsewhere =
-        by_cases (ltb before (get_or numbers q 0))
-        (λ (y : ltb before (get_or numbers q 0) ≡ true).
-        let above = ltb-true before (get_or numbers q 0) y in
-        rw (here above) (greatest_here above))
-        (λ (z : ltb before (get_or numbers q 0) ≡ false).
-        let below = ltb-false before (get_or numbers q 0) z in
-        rw (elsewhere below) (greatest_before below))
+  pub greatest_picked : EachIndex numbers (λ k. get_or numbers k 0 ≤ most) → (most ≡ 0) ⊎ Contains numbers most → Greatest numbers most
+  greatest_picked least one =
+      record {
+        above = λ bar.
+            by_cases (ltb bar most)
+            (λ (y : ltb bar most ≡ true).
+            y ∙ sym (⊎_elim (λ (z : most ≡ 0). absurd (omega (arith, ltb-true bar most y))) (found_above bar y) one))
+            (λ (n : ltb bar most ≡ false).
+            n
+            ∙ sym (some_none (λ q. ltb bar (get_or numbers q 0)) (length numbers)
+            (λ q l. le-ltb bar (get_or numbers q 0) (omega (arith, least q l, ltb-false bar most n)))));
+      }

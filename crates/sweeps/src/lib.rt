@@ -10,16 +10,7 @@ ghost use Rattle.sweeps.specs.Clauses.{Greatest, Clear};
 pub fn greatest(numbers: &[u16]) -> u16
     ensures { Greatest numbers.now result }
 {
-    let mut most: u16 = 0;
-    let mut q = 0;
-    while q < numbers.len() {
-        let number = numbers[q];
-        if most < number {
-            most = number;
-        }
-        q += 1;
-    }
-    most
+    numbers.iter().copied().max().unwrap_or(0)
 }
 
 // Whether one of the numbers is above the one before it.
@@ -28,12 +19,8 @@ pub fn rises(numbers: &[u16]) -> bool
         (length numbers.now - 1) }
 {
     let mut found = false;
-    let mut q = 1;
-    while q < numbers.len() {
-        if numbers[q - 1] < numbers[q] {
-            found = true;
-        }
-        q += 1;
+    for q in 1..numbers.len() {
+        found |= numbers[q - 1] < numbers[q];
     }
     found
 }
@@ -43,12 +30,8 @@ pub fn has_zero(numbers: &[u16]) -> bool
     ensures { result ≡ some_below (λ q. eqb (get_or numbers.now q 0) 0) (length numbers.now) }
 {
     let mut found = false;
-    let mut q = 0;
-    while q < numbers.len() {
-        if numbers[q] == 0 {
-            found = true;
-        }
-        q += 1;
+    for number in numbers {
+        found |= *number == 0;
     }
     found
 }
@@ -59,10 +42,7 @@ pub fn note_items(items: &[u16], places: &mut [u16])
     ensures { places.new ≡ row (noted (λ q. get_or items.now q 0) (length items.now))
         (length places.old) }
 {
-    let mut q = 0;
-    while q < items.len() {
-        let item = items[q];
-        q += 1;
-        places[item as usize] = q as u16;
+    for (q, item) in items.iter().enumerate() {
+        places[usize::from(*item)] = (q + 1) as u16;
     }
 }

@@ -1,3 +1,3 @@
 -- Laws that the proofs of this crate cite.
---     Filling    slices written from the front
+--     Filling    the closed form, list by list
 mod Filling

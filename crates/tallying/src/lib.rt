@@ -5,23 +5,12 @@ ghost use Rattle.std.specs.Prelude.{◌≡◌, ◌++◌, ◌*◌, ◌≤◌, ltb
 ghost use Rattle.model.specs.Words.{row as row_of, table, over};
 ghost use Rattle.laws.specs.Lookups.{once};
 
-// Every entry of a part of the tally is x.
-fn fill(part: &mut [u8], x: u8)
-    ensures { part.new ≡ replicate (length part.old) x }
-{
-    let mut q = 0;
-    while q < part.len() {
-        part[q] = x;
-        q += 1;
-    }
-}
-
 // No position is visited yet: the first `size` entries are 0.
 pub fn clear(tally: &mut [u8], size: usize)
     requires { size ≤ length tally.old }
     ensures { tally.new ≡ replicate size 0 ++ drop size tally.old }
 {
-    fill(&mut tally[0..size], 0);
+    tally[..size].fill(0);
 }
 
 // One list's part of the tally after p rows: two plain fills, with no test of an entry.
@@ -29,9 +18,9 @@ fn fill_list(row: &mut [u8], p: usize)
     requires { p ≤ length row.old }
     ensures { row.new ≡ row_of (λ q. once (ltb q p)) (length row.old) }
 {
-    let end = row.len();
-    fill(&mut row[0..p], 1);
-    fill(&mut row[p..end], 0);
+    let (visited, rest) = row.split_at_mut(p);
+    visited.fill(1);
+    rest.fill(0);
 }
 
 // The whole tally after p rows; places beyond it stay as lent.
@@ -39,11 +28,8 @@ pub fn fill_tally(p: usize, m: usize, n: usize, tally: &mut [u8])
     requires { (p ≤ n) × (m ≤ 8) × (n ≤ 1024) × (m * n ≤ length tally.old) }
     ensures { tally.new ≡ over (table (λ i q. once (ltb q p)) n m) tally.old }
 {
-    let mut i = 0;
-    while i < m {
+    for i in 0..m {
         let from = i * n;
-        let to = from + n;
-        fill_list(&mut tally[from..to], p);
-        i += 1;
+        fill_list(&mut tally[from..from + n], p);
     }
 }

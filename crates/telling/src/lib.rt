@@ -1,11 +1,14 @@
 // A search's answer told as C is told it: its numbers in a lent array.
 #![tactic(auto)]
 
+ghost use Rattle.poses.specs.Methods.{method_number};
+ghost use Rattle.poses.specs.Sets.{lent_of, IsSameRoom};
 ghost use Rattle.running.specs.Clauses.{search_at};
-ghost use Rattle.admission.specs.Clauses.{lent_with};
 ghost use Rattle.telling.specs.Told.{AnswerTold, SearchTold};
 
 use answers::Answer;
+use poses::methods::Method;
+use poses::{PoseSet, Query, Room};
 
 // The seven numbers of a search's answer, in the order of the header; returns the first.
 fn tell(a: Answer, told: &mut [u32; 7]) -> u32
@@ -17,30 +20,20 @@ fn tell(a: Answer, told: &mut [u32; 7]) -> u32
     a.number
 }
 
-// The search of a number, and its answer told.
+// The search of a name, and its answer told.
 pub fn searched(
-    which: u8,
-    m: usize,
-    n: usize,
-    items: &[u16],
-    scores: &[u16],
-    rule: u8,
-    k: usize,
-    weights: &[u8],
-    picks: &mut [u16],
-    lows: &mut [u32],
-    highs: &mut [u32],
-    tally: &mut [u8],
-    work: &mut [u16],
+    method: Method,
+    set: PoseSet,
+    query: Query,
+    room: &mut Room,
     told: &mut [u32; 7],
 ) -> u32
-    ensures { SearchTold (search_at which) (lent_with m n rule k weights.now
-        items.now scores.now picks.old lows.old
-        highs.old tally.old work.old) result told.new
-        picks.new lows.new highs.new tally.new work.new }
+    ensures same { IsSameRoom room.old room.new }
+    ensures answer { SearchTold (search_at (method_number method)) (lent_of set.entry query.entry room.old) result told.new
+        room.new.picks.now room.new.lows.now room.new.highs.now room.new.tally.now room.new.work.now }
 {
-    let answer = answering::search(
-        which, m, n, items, scores, rule, k, weights, picks, lows, highs, tally, work,
-    );
-    tell(answer, told)
+    tell(
+        Answer::from(answering::search(method, set, query, room)),
+        told,
+    )
 }

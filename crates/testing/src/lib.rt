@@ -1,16 +1,19 @@
 // Tests of a search that ask about one thing each: k, the weights, the room that is lent. And the weights as numbers.
 #![tactic(auto)]
 
-ghost use Rattle.std.specs.Prelude.{◌≡◌, ◌+◌, ◌*◌, ◌≤◌, ◌<◌, length};
-ghost use Rattle.model.specs.Refusals.{pair as pair_of, wrong_k, wrong_weights};
+ghost use Rattle.std.specs.Prelude.{◌≡◌, ◌*◌, ◌≤◌, length};
+ghost use Rattle.model.specs.Refusals.{wrong_k, wrong_weights};
 ghost use Rattle.testing.specs.Clauses.{no_room_of, Decoded};
 
-// A weight is written as in a record, in two bytes.
-fn pair(bytes: &[u8], at: usize) -> u32
-    requires { at + 1 < length bytes.now }
-    ensures { result ≡ pair_of bytes.now at }
-{
-    heads::pair_at(bytes, at) as u32
+use heads::pair_at;
+
+/// How many places are lent of each slice that a search writes, the work slice apart.
+#[derive(Clone, Copy)]
+pub struct Lengths {
+    pub picks: usize,
+    pub lows: usize,
+    pub highs: usize,
+    pub tally: usize,
 }
 
 // Test 2: k is 0 or above n.
@@ -18,10 +21,7 @@ fn pair(bytes: &[u8], at: usize) -> u32
 pub fn wrong_k(k: usize, n: usize) -> bool
     ensures { result ≡ wrong_k k n }
 {
-    if k == 0 {
-        return true;
-    }
-    n < k
+    k == 0 || n < k
 }
 
 // Test 4: the weights are not 2m bytes, or one is above 1,000.
@@ -33,12 +33,10 @@ pub fn wrong_weights(m: usize, weights: &[u8]) -> bool
     if weights.len() != 2 * m {
         return true;
     }
-    let mut i = 0;
-    while i < m {
-        if 1000 < pair(weights, 2 * i) {
+    for i in 0..m {
+        if 1000 < pair_at(weights, 2 * i) {
             return true;
         }
-        i += 1;
     }
     false
 }
@@ -50,37 +48,19 @@ pub fn decode(m: usize, weights: &[u8]) -> [u32; 8]
     ensures { Decoded weights.now result }
 {
     let mut numbers = [0u32; 8];
-    let mut i = 0;
-    while i < m {
-        numbers[i] = pair(weights, 2 * i);
-        i += 1;
+    for i in 0..m {
+        numbers[i] = pair_at(weights, 2 * i) as u32;
     }
     numbers
 }
 
-// A slice of each length is lent: under k places for the shortlist, under m x n for the tally and the work slice.
-pub fn no_room(
-    k: usize,
-    size: usize,
-    picks: usize,
-    lows: usize,
-    highs: usize,
-    tally: usize,
-    work: usize,
-) -> bool
-    ensures { result ≡ no_room_of k size picks lows highs tally work }
+// Test 6: a slice that is lent has under `count` places for the shortlist, or under `size` for the tally or the work slice.
+pub fn no_room(count: usize, size: usize, lengths: Lengths, work: usize) -> bool
+    ensures { result ≡ no_room_of count size lengths.picks lengths.lows lengths.highs lengths.tally work }
 {
-    if picks < k {
-        return true;
-    }
-    if lows < k {
-        return true;
-    }
-    if highs < k {
-        return true;
-    }
-    if tally < size {
-        return true;
-    }
-    work < size
+    lengths.picks < count
+        || lengths.lows < count
+        || lengths.highs < count
+        || lengths.tally < size
+        || work < size
 }

@@ -1,50 +1,79 @@
-// The previewer's lines, written into a lent slice of bytes in the way of `fields`.
+//! The previewer's lines, appended to lent bytes in the way of `fields`.
 #![tactic(auto)]
 
-ghost use Rattle.std.specs.Prelude.{◌+◌, ◌*◌, ◌≤◌, length};
-ghost use Rattle.model.specs.Program.{line as Program·line, refused_line};
+pub mod refusals;
+
+ghost use Rattle.std.specs.Prelude.{◌≡◌, ◌+◌, ◌*◌, ◌≤◌, length};
+ghost use Rattle.model.specs.Program.{line as Program·line};
+ghost use Rattle.poses.specs.Methods.{method_number};
 ghost use Rattle.fields.specs.Clauses.{Appended};
 ghost use Rattle.listing.specs.Clauses.{places_at, LineRoom};
+ghost use Rattle.text.specs.Names.{name_at};
 
-use fields::{put, spaced, word};
-use listing::places;
+use fields::Text;
+use meeting::Found;
+use poses::methods::Method;
+pub use refusals::{refused_line, refused_numbers};
 
-// The line of a refusal.
-pub fn refused_line(number: u32, list: u32, position: u32, out: &mut [u8], at: usize) -> usize
-    requires { at + 41 ≤ length out.old }
-    ensures { Appended (refused_line number list position) out.old at out.new result }
+// The name that a search's line begins with.
+#[tactic(auto, unfolding(crate::specs::Names::name_at))]
+fn name(method: Method) -> &'static [u8]
+    ensures { result.now ≡ name_at (method_number method) }
 {
-    let at = word(b"REFUSED", out, at);
-    let at = spaced(number, out, at);
-    let at = spaced(list, out, at);
-    let at = spaced(position, out, at);
-    put(b'\n', out, at)
+    match method {
+        Method::Ta => b"TA",
+        Method::Bpa => b"BPA",
+        Method::Bpa2 => b"BPA2",
+        Method::Nra => b"NRA",
+    }
 }
 
-// The line of a search: its name, its four counts, and the k places of its shortlist.
-pub fn line(
+/// A line of a name, four counts, and the k places of a shortlist.
+#[tactic(auto, using(fields::specs::Appending::appended_length))]
+pub fn named_line(
     name: &[u8],
-    rows: u32,
-    sorted: u32,
-    direct: u32,
-    random: u32,
+    found: Found,
     k: usize,
     picks: &[u16],
     lows: &[u32],
     highs: &[u32],
-    out: &mut [u8],
-    at: usize,
-) -> usize
-    requires { LineRoom (length name.now + 45 + 28 * k) k picks.now lows.now highs.now out.old at }
-    ensures { Appended (Program·line name.now rows sorted direct random
-        (places_at picks.now lows.now highs.now k)) out.old at
-        out.new result }
+    text: &mut Text,
+)
+    requires { LineRoom (length name.now + 45 + 28 * k) k picks.now lows.now highs.now
+        text.old.out.now text.old.end }
+    ensures same { text.new.out.ghost_name ≡ text.old.out.ghost_name }
+    ensures text { Appended (Program·line name.now found.rows found.sorted.0 found.direct.0
+        found.random.0 (places_at picks.now lows.now highs.now k)) text.old.out.now text.old.end
+        text.new.out.now text.new.end }
+    ensures short { text.new.end ≤ text.old.end + (length name.now + 45 + 28 * k) }
 {
-    let at = word(name, out, at);
-    let at = spaced(rows, out, at);
-    let at = spaced(sorted, out, at);
-    let at = spaced(direct, out, at);
-    let at = spaced(random, out, at);
-    let end = places(k, picks, lows, highs, out, at);
-    put(b'\n', out, end)
+    text.word(name);
+    text.spaced(found.rows);
+    text.spaced(found.sorted.0);
+    text.spaced(found.direct.0);
+    text.spaced(found.random.0);
+    listing::places(k, picks, lows, highs, text);
+    text.put(b'\n');
+}
+
+/// The line of a search: its name, its four counts, and the k places of its shortlist.
+pub fn line(
+    method: Method,
+    found: Found,
+    k: usize,
+    picks: &[u16],
+    lows: &[u32],
+    highs: &[u32],
+    text: &mut Text,
+)
+    requires { LineRoom (length (name_at (method_number method)) + 45 + 28 * k) k picks.now lows.now
+        highs.now text.old.out.now text.old.end }
+    ensures same { text.new.out.ghost_name ≡ text.old.out.ghost_name }
+    ensures text { Appended (Program·line (name_at (method_number method)) found.rows found.sorted.0
+        found.direct.0 found.random.0 (places_at picks.now lows.now highs.now k)) text.old.out.now
+        text.old.end text.new.out.now text.new.end }
+    ensures short { text.new.end
+        ≤ text.old.end + (length (name_at (method_number method)) + 45 + 28 * k) }
+{
+    named_line(name(method), found, k, picks, lows, highs, text);
 }

@@ -1,141 +1,81 @@
-// The fields of a case, taken from standard input.
-ghost use Rattle.std.specs.Prelude.{◌*◌, ◌≤◌, ◌≡◌, length};
+// The fields of a case, taken from standard input. Each gives `None` where the input ends before it
+// has all that the field says, or where the slice has no room for it.
+ghost use Rattle.std.specs.Prelude.{◌≤◌, IfSome, length};
 
 // The descriptor of standard input.
 const STDIN: i32 = 0;
 
-// A counted field: how many entries were read, and whether the input had all that it said and the
-// slice room for them.
-#[derive(Clone, Copy)]
-pub struct Taken {
-    pub whole: bool,
-    pub count: usize,
-}
-
-fn nothing() -> Taken
-    ensures { result.count ≡ 0 }
-{
-    Taken {
-        whole: false,
-        count: 0,
-    }
-}
-
-// Fills the bytes: whether the input had that many.
-pub fn whole(bytes: &mut [u8]) -> bool {
+// Fills the bytes.
+pub fn fill(bytes: &mut [u8]) -> Option<()> {
     let count = io::read_full(STDIN, bytes);
-    count == bytes.len()
+    (count == bytes.len()).then_some(())
 }
 
-// The number with one byte more at its end; the upper byte of eight is lost.
-fn appended(x: usize, byte: u8) -> usize {
-    (x % 72057594037927936) * 256 + (byte as usize)
-}
-
-// The number in the bytes, big-endian.
+// The number in the bytes, big-endian; of more than eight, the last eight.
 pub fn number(bytes: &[u8]) -> usize {
-    let mut x = 0;
-    let mut i = 0;
-    while i < bytes.len() {
-        x = appended(x, bytes[i]);
-        i += 1;
-    }
-    x
+    bytes
+        .iter()
+        .fold(0, |x: usize, &byte| (x << 8) | usize::from(byte))
 }
 
-// A count of as many bytes as the slice has, where it is not above the most.
-fn count(field: &mut [u8], most: usize) -> Taken
-    ensures { result.count ≤ most }
+// A count of as many bytes as the field has, where it is not above the most.
+fn count(field: &mut [u8], most: usize) -> Option<usize>
+    ensures { IfSome result (λ count. count ≤ most) }
 {
-    if !whole(field) {
-        return nothing();
-    }
+    fill(field)?;
     let count = number(field);
-    if most < count {
-        return nothing();
-    }
-    Taken { whole: true, count }
+    if count <= most { Some(count) } else { None }
 }
 
 // The length of a slice to be written, in two bytes.
-pub fn length(most: usize) -> Taken
-    ensures { result.count ≤ most }
+pub fn length(most: usize) -> Option<usize>
+    ensures { IfSome result (λ count. count ≤ most) }
 {
     let mut field = [0u8; 2];
     count(&mut field, most)
 }
 
-// The bytes of a field, into the start of a slice.
-fn counted(head: &mut [u8], bytes: &mut [u8]) -> Taken
-    ensures { result.count ≤ length bytes.new }
+// The bytes of a field, into the start of a slice: how many.
+fn counted(head: &mut [u8], bytes: &mut [u8]) -> Option<usize>
+    ensures { IfSome result (λ count. count ≤ length bytes.new) }
 {
-    let told = count(head, bytes.len());
-    let end = told.count;
-    if !told.whole {
-        return nothing();
-    }
-    if !whole(&mut bytes[0..end]) {
-        return nothing();
-    }
-    told
+    let count = count(head, bytes.len())?;
+    fill(&mut bytes[..count])?;
+    Some(count)
 }
 
 // Bytes whose count has two bytes.
-pub fn few(bytes: &mut [u8]) -> Taken
-    ensures { result.count ≤ length bytes.new }
+pub fn few(bytes: &mut [u8]) -> Option<usize>
+    ensures { IfSome result (λ count. count ≤ length bytes.new) }
 {
     let mut head = [0u8; 2];
     counted(&mut head, bytes)
 }
 
 // Bytes whose count has four bytes.
-pub fn many(bytes: &mut [u8]) -> Taken
-    ensures { result.count ≤ length bytes.new }
+pub fn many(bytes: &mut [u8]) -> Option<usize>
+    ensures { IfSome result (λ count. count ≤ length bytes.new) }
 {
     let mut head = [0u8; 4];
     counted(&mut head, bytes)
 }
 
-fn joined(high: u8, low: u8) -> u16 {
-    (high as u16) * 256 + (low as u16)
-}
-
-// Pairs of bytes as numbers.
-fn decode(raw: &[u8], entries: &mut [u16])
-    requires { 2 * length entries.old ≤ length raw.now }
-{
-    let mut i = 0;
-    while i < entries.len() {
-        entries[i] = joined(raw[2 * i], raw[2 * i + 1]);
-        i += 1;
+// Pairs of bytes as numbers, the higher byte first.
+fn decode(raw: &[u8], entries: &mut [u16]) {
+    for (entry, pair) in entries.iter_mut().zip(raw.chunks_exact(2)) {
+        *entry = u16::from_be_bytes([pair[0], pair[1]]);
     }
 }
 
-// Fills the entries, by way of their bytes: whether the input had them.
-fn decoded(raw: &mut [u8], entries: &mut [u16]) -> bool
-    requires { 2 * length entries.old ≤ length raw.old }
-{
-    if !whole(raw) {
-        return false;
-    }
-    decode(raw, entries);
-    true
-}
-
-// Pairs whose count has two bytes, into the start of a slice of at most 8,200.
-pub fn pairs(entries: &mut [u16]) -> Taken
+// Pairs whose count has two bytes, into the start of a slice of at most 8,200: how many.
+pub fn pairs(entries: &mut [u16]) -> Option<usize>
     requires { length entries.old ≤ 8200 }
-    ensures { result.count ≤ length entries.new }
+    ensures { IfSome result (λ count. count ≤ length entries.new) }
 {
-    let told = length(entries.len());
-    if !told.whole {
-        return nothing();
-    }
-    let end = told.count;
-    let size = 2 * end;
+    let count = length(entries.len())?;
     let mut raw = [0u8; 16400];
-    if !decoded(&mut raw[0..size], &mut entries[0..end]) {
-        return nothing();
-    }
-    told
+    let raw = &mut raw[..2 * count];
+    fill(raw)?;
+    decode(raw, &mut entries[..count]);
+    Some(count)
 }

@@ -14,12 +14,10 @@ mod of_records;
 mod of_search;
 mod print;
 
-// One case by its number: whether it was whole.
-fn case(number: u32) -> bool {
+// One case by its number: `None` where it is not whole.
+fn case(number: u32) -> Option<()> {
     let mut kind = [0u8; 1];
-    if !input::whole(&mut kind) {
-        return false;
-    }
+    input::fill(&mut kind)?;
     match kind[0] {
         1 => of_preview::run(number),
         2 => of_search::run(number),
@@ -27,7 +25,7 @@ fn case(number: u32) -> bool {
         4 => of_records::query(number),
         5 => of_records::lists(number),
         6 => of_records::weights(number),
-        _ => false,
+        _ => None,
     }
 }
 
@@ -35,11 +33,9 @@ fn case(number: u32) -> bool {
 const MOST: u32 = 1000000;
 
 fn main() {
-    let mut number = 1;
-    while number < MOST {
-        if !case(number) {
+    for number in 1..MOST {
+        if case(number).is_none() {
             return;
         }
-        number += 1;
     }
 }

@@ -1,54 +1,31 @@
 // The list check called by itself.
 use crate::{input, lend, print};
+use searches::PoseSet;
 
-fn in_slice(number: u32, m: usize, n: usize, items: &[u16], scores: &[u16], work: &mut [u16]) {
-    let answer = lists::check_lists(m, n, items, scores, work);
-    print::case(number);
-    print::three(
-        answer.number as usize,
-        answer.list as usize,
-        answer.position as usize,
-    );
-    print::pairs(work);
-}
-
-// The work slice, of the length told.
-fn with_work(number: u32, m: usize, n: usize, items: &[u16], scores: &[u16]) -> bool {
-    let told = input::length(8200);
-    if !told.whole {
-        return false;
-    }
-    let end = told.count;
-    let mut work = [0u16; 8200];
-    lend::pairs(lend::WORK, end, &mut work);
-    in_slice(number, m, n, items, scores, &mut work[0..end]);
-    true
-}
-
-// The two slices of the lists.
-fn with_lists(number: u32, m: usize, n: usize) -> bool {
-    let mut items = [0u16; 8200];
-    let items_taken = input::pairs(&mut items);
-    if !items_taken.whole {
-        return false;
-    }
-    let mut scores = [0u16; 8200];
-    let scores_taken = input::pairs(&mut scores);
-    if !scores_taken.whole {
-        return false;
-    }
-    let items_end = items_taken.count;
-    let scores_end = scores_taken.count;
-    with_work(number, m, n, &items[0..items_end], &scores[0..scores_end])
-}
-
-// Whether the case was whole.
-pub fn run(number: u32) -> bool {
+// The whole case, or `None`.
+pub fn run(number: u32) -> Option<()> {
     let mut head = [0u8; 16];
-    if !input::whole(&mut head) {
-        return false;
+    input::fill(&mut head)?;
+    let mut items = [0u16; 8200];
+    let items_count = input::pairs(&mut items)?;
+    let mut scores = [0u16; 8200];
+    let scores_count = input::pairs(&mut scores)?;
+    let work_count = input::length(8200)?;
+    let mut work = [0u16; 8200];
+    let work = &mut work[..work_count];
+    lend::pairs(lend::WORK, work);
+    let set = PoseSet {
+        lists: input::number(&head[..8]),
+        poses: input::number(&head[8..]),
+        items: &items[..items_count],
+        scores: &scores[..scores_count],
+    };
+    let checked = lists::check_lists(set, work);
+    print::case(number);
+    match checked {
+        Ok(()) => print::line(&[0u32, 0, 0]),
+        Err(refusal) => print::line(&[refusal.number(), refusal.list(), refusal.position()]),
     }
-    let m = input::number(&head[0..8]);
-    let n = input::number(&head[8..16]);
-    with_lists(number, m, n)
+    print::slice(work);
+    Some(())
 }

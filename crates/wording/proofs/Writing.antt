@@ -1,36 +1,40 @@
 -- The line of an answer, written.
---     refusal_written, found_written     by its two ways
+--     found_asked                        the room that a search's line asks, of that which an answer's asks
+--     found_written, refusal_written     the line by its two ways
 -- Assumes nothing.
-use mathlib.Core.Path.{◌≡◌}
-use mathlib.Core.List.{List}
-use Prim.Native.Nat.{ℕ, ◌≤◌, ◌<◌, ◌^◌}
-use native.Mathlib.Omega.{arith}
+use Rattle.std.specs.Prelude.{◌≡◌, List, ℕ, ◌+◌, ◌*◌, ◌≤◌, length}
+use Rattle.std.proofs.Common.{arith, eq-eqb, ne_eqb}
 use Rattle.model.specs.Program.{line, refused_line}
 use Rattle.model.specs.Answers.{Place}
 use Rattle.answers.specs.declared.Answer.{Answer}
 use Rattle.fields.specs.Clauses.{Appended}
-use Rattle.fields.specs.Appending.{appended_is}
-use Rattle.listing.specs.Clauses.{places_at}
-use Rattle.wording.specs.Clauses.{name_at, AnswerWritten}
-use Rattle.wording.proofs.Texts.{Held, text_refused, text_found, refused_short, found_short}
+use Rattle.listing.specs.Clauses.{LineRoom}
+use Rattle.text.specs.Names.{name_at, name_most}
+use Rattle.wording.specs.Clauses.{answer_text, AnswerRoom, AnswerWritten}
 
-module _ (which : ℕ) (a : Answer) {before after : List ℕ} {at end : ℕ} where
-  pub refusal_written : (places : List Place) → a.number < 2 ^ 32 → a.list < 2 ^ 32 → a.position < 2 ^ 32
-      → (a.number ≡ 0 → ⊥) → Appended (refused_line a.number a.list a.position) before at after end
+module _ (which k : ℕ) {a : Answer} {picks lows highs out : List ℕ} {at : ℕ} where
+  pub found_asked : a.number ≡ 0 → AnswerRoom a k picks lows highs out at
+      → LineRoom (length (name_at which) + 45 + 28 * k) k picks lows highs out at
+  found_asked none asked =
+      record {
+        picks_long = asked.picks_long none;
+        lows_long = asked.lows_long none;
+        highs_long = asked.highs_long none;
+        room = omega (arith, asked.few none, asked.room, name_most which);
+      }
+
+module _ {which k : ℕ} {a : Answer} {places : List Place} {picks lows highs before after : List ℕ} {at end : ℕ} where
+  pub found_written : a.number ≡ 0 → AnswerRoom a k picks lows highs before at
+      → Appended (line (name_at which) a.rows a.sorted.0 a.direct.0 a.random.0 places) before at after end
+      → end ≤ at + (length (name_at which) + 45 + 28 * k)
       → AnswerWritten which a places before at after end
-  refusal_written places number_fits list_fits position_fits some w =
-      record {
-        appended = appended_is (text_refused which a places some) w;
-        short = omega (arith, w.ends, refused_short a number_fits list_fits position_fits);
-      }
+  unfolding answer_text
+  found_written none asked w short =
+      record { appended = rw (eq-eqb a.number 0 none) w; short = omega (arith, asked.few none, name_most which) }
 
-  pub found_written : (k : ℕ) {picks lows highs : List ℕ} → Held a picks lows highs → a.number ≡ 0 → k ≤ 1024
-      → (name : List ℕ) → name ≡ name_at which
-      → Appended (line name a.rows a.sorted.0 a.direct.0 a.random.0 (places_at picks lows highs k)) before at after end
-      → AnswerWritten which a (places_at picks lows highs k) before at after end
-  found_written k held none few name named w =
-      let named_line = rw named at w in
-      record {
-        appended = appended_is (text_found which a _ none) named_line;
-        short = omega (arith, named_line.ends, found_short held which k few);
-      }
+module _ {which : ℕ} {a : Answer} {places : List Place} {before after : List ℕ} {at end : ℕ} where
+  pub refusal_written : (a.number ≡ 0 → ⊥) → Appended (refused_line a.number a.list a.position) before at after end
+      → end ≤ at + 41
+      → AnswerWritten which a places before at after end
+  unfolding answer_text
+  refusal_written some w short = record { appended = rw (ne_eqb a.number 0 some) w; short = omega arith }

@@ -1,25 +1,15 @@
 -- The records that the contracts of `wording` cite.
---     all_names, name_at       the four names, joined; the name of a search by its number
+--     name_at                 the name of a search by its number, which is that of `text`
 --     line_room               the bytes that a line of a search takes at most
 --     answer_text             the line that an answer with its places makes: a search's, or a refusal's
 --     AnswerRoom, AnswerWritten      what the writing of an answer's line asks and promises
 -- Assumes nothing.
-use Rattle.std.specs.Prelude.{◌≡◌, cond, List, ◌++◌, ℕ, zero, suc, ◌+◌, ◌*◌, ◌≤◌, eqb, length}
+use Rattle.std.specs.Prelude.{◌≡◌, cond, List, ℕ, ◌+◌, ◌*◌, ◌≤◌, eqb, length}
 use Rattle.model.specs.Answers.{Place}
-use Rattle.model.specs.Program.{name_ta, name_bpa, name_bpa2, name_nra, line, refused_line}
+use Rattle.model.specs.Program.{line, refused_line}
 use Rattle.answers.specs.declared.Answer.{Answer}
 use Rattle.fields.specs.Clauses.{Appended}
-
--- the four names, joined
-abbrev pub all_names : List ℕ
-all_names = name_ta ++ name_bpa ++ name_bpa2 ++ name_nra
-
--- the name of a search by its number
-unfoldable pub name_at : ℕ → List ℕ
-name_at zero = name_ta
-name_at (suc zero) = name_bpa
-name_at (suc (suc zero)) = name_bpa2
-name_at (suc (suc (suc which))) = name_nra
+unfoldable pub use Rattle.text.specs.Names.{name_at}
 
 -- the bytes that a line of a search takes at most: four for its name, 45 for its counts, 28 for each of 1,024 places
 abbrev pub line_room : ℕ

@@ -1,58 +1,60 @@
-// The line of an answer: a search's name, counts and places, or a refusal.
+//! The line of what a search gives back: its name, counts and places, or a refusal.
 #![tactic(auto)]
 
 ghost use Rattle.std.specs.Prelude.{◌≡◌};
+ghost use Rattle.poses.specs.Methods.{method_number};
 ghost use Rattle.listing.specs.Clauses.{places_at};
-ghost use Rattle.wording.specs.Clauses.{all_names, name_at, AnswerRoom, AnswerWritten};
+ghost use Rattle.answers.specs.Clauses.{answer_of};
+ghost use Rattle.wording.specs.Clauses.{AnswerRoom, AnswerWritten};
 
 use answers::Answer;
+use fields::Text;
+use meeting::Found;
+use poses::methods::Method;
+use poses::refusals::Refusal;
 
-// The name of a search, TA, BPA, BPA2 or NRA by its number, as a part of all four names.
-fn name(which: u8, names: &[u8]) -> &[u8]
-    requires { names.now ≡ all_names }
-    ensures { result.now ≡ name_at which }
-{
-    if which == 0 {
-        return &names[0..2];
-    }
-    if which == 1 {
-        return &names[2..5];
-    }
-    if which == 2 {
-        return &names[5..9];
-    }
-    &names[9..12]
-}
-
-// The line of an answer, written from `at` on: a search's with its k places, or a refusal's.
-pub fn answer_line(
-    which: u8,
+/// The line of an answer in numbers: a search's with its k places, or a refusal's.
+pub fn told_line(
+    method: Method,
     answer: Answer,
     k: usize,
     picks: &[u16],
     lows: &[u32],
     highs: &[u32],
-    out: &mut [u8],
-    at: usize,
-) -> usize
-    requires { AnswerRoom answer k picks.now lows.now highs.now out.old at }
-    ensures { AnswerWritten which answer (places_at picks.now lows.now
-        highs.now k) out.old at out.new result }
+    text: &mut Text,
+)
+    requires { AnswerRoom answer k picks.now lows.now highs.now text.old.out.now text.old.end }
+    ensures same { text.new.out.ghost_name ≡ text.old.out.ghost_name }
+    ensures text { AnswerWritten (method_number method) answer (places_at picks.now lows.now highs.now k)
+        text.old.out.now text.old.end text.new.out.now text.new.end }
 {
     if answer.number != 0 {
-        return text::refused_line(answer.number, answer.list, answer.position, out, at);
+        text::refused_numbers(answer.number, answer.list, answer.position, text);
+        return;
     }
-    text::line(
-        name(which, b"TABPABPA2NRA"),
-        answer.rows,
-        answer.sorted.0,
-        answer.direct.0,
-        answer.random.0,
-        k,
-        picks,
-        lows,
-        highs,
-        out,
-        at,
-    )
+    let found = Found {
+        rows: answer.rows,
+        sorted: answer.sorted,
+        direct: answer.direct,
+        random: answer.random,
+    };
+    text::line(method, found, k, picks, lows, highs, text);
+}
+
+/// The line of what a search gives back.
+pub fn answer_line(
+    method: Method,
+    found: Result<Found, Refusal>,
+    k: usize,
+    picks: &[u16],
+    lows: &[u32],
+    highs: &[u32],
+    text: &mut Text,
+)
+    requires { AnswerRoom (answer_of found) k picks.now lows.now highs.now text.old.out.now text.old.end }
+    ensures same { text.new.out.ghost_name ≡ text.old.out.ghost_name }
+    ensures text { AnswerWritten (method_number method) (answer_of found) (places_at picks.now lows.now highs.now k)
+        text.old.out.now text.old.end text.new.out.now text.new.end }
+{
+    told_line(method, Answer::from(found), k, picks, lows, highs, text);
 }

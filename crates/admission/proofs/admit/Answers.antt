@@ -1,17 +1,22 @@
 -- `admission::admit` meets its contract: refused by its own tests, or answered by the list check.
 -- Assumes nothing.
-use mathlib.Core.Path.{refl, sym, ◌∙◌}
+use Rattle.std.proofs.Common.{rules}
 use Rattle.admission.proofs.Tested.{admitted_refused, admitted_checked}
 use Rattle.admission.proofs.admit.Goals as goal
 
-pub returns-then-number-ne0 : goal.returns-then-number-ne0
-returns-then-number-ne0 c =
-    let a = c.args in
-    admitted_refused a.m a.n a.rule a.k a.weights.now a.items.now a.scores.now a.picks a.lows a.highs a.tally a.work.now _
-    c.shape-number.ensures refl refl c.if-number-ne0.true
+pub returns-in_err-shape : goal.returns-in_err-shape
+returns-in_err-shape c =
+    let s = c.args.set in
+    let q = c.args.query in
+    let l = c.args.lengths in
+    let refused = admitted_refused s.lists s.poses q.rule q.count q.weights.now s.items.now s.scores.now l.picks l.lows l.highs l.tally
+    c.args.work.now c.in_err-shape.field-0.0 c.in_err-shape.ensures.tells in
+    search rules
 
 pub returns : goal.returns
 returns c =
-    let a = c.args in
-    admitted_checked a.m a.n a.rule a.k a.weights.now a.items.now a.scores.now a.picks a.lows a.highs a.tally a.work.now
-    c.check_lists.result (sym c.shape-number.ensures ∙ c.if-number-ne0.false) c.check_lists.ensures
+    let s = c.args.set in
+    let q = c.args.query in
+    let l = c.args.lengths in
+    admitted_checked s.lists s.poses q.rule q.count q.weights.now s.items.now s.scores.now l.picks l.lows l.highs l.tally
+    c.args.work.now c.in_ok-shape.ensures.passes c.check_lists.ensures

@@ -1,17 +1,14 @@
 -- `blocking::met_in_the_way` meets its contract: what is not from `at` on is in front of it.
 -- Assumes nothing.
-use native.Mathlib.Omega.{arith}
-use Rattle.halting.specs.Gathering.{gathered_most, gathered_named}
+use Rattle.std.specs.Prelude.{◌≡◌, ◌-◌, length, take, drop}
+use Rattle.std.proofs.Common.{arith, length-drop, take_all}
+use Rattle.meeting.specs.Clauses.{view_of}
+use Rattle.blocking.proofs.Parts.{found_front}
 use Rattle.blocking.proofs.met_in_the_way.Goals as goal
 
-pub blocker-behind-requires : goal.blocker-behind-requires
-blocker-behind-requires c = (c.requires.0, c.requires.1, gathered_named c.requires.2 c.args.count (omega arith), c.requires.3, gathered_most c.requires.2)
-
-pub blocker-front-requires : goal.blocker-front-requires
-blocker-front-requires c = (
-  c.requires.0,
-  c.requires.1,
-  gathered_named c.requires.2 c.args.at c.requires.3,
-  omega arith,
-  omega (arith, c.requires.3, gathered_most c.requires.2),
-)
+pub returns : goal.returns
+returns c =
+    let at = c.args.at in
+    let met = c.args.met.now in
+    let behind : take (length met - at) (drop at met) ≡ drop at met = take_all _ _ (omega (arith, length-drop at met)) in
+    found_front (view_of c.args.rows.reading) c.args.p c.args.bar at met (rw behind at c.in_default.ensures) _ c.blocker-2.ensures

@@ -1,79 +1,78 @@
 -- `blocking::obstacle` meets its contract: one item in the way keeps the test from holding, and where there is none the number of highs
 -- above the bar tells, which is no more than k where no more lows reach the bar.
 -- Assumes nothing.
-use mathlib.Core.Path.{sym, ◌∙◌}
-use Prim.Native.Nat.{◌-◌, ◌<◌}
-use native.Mathlib.Omega.{arith}
-use lib.Dec.{ltb}
-use borrow.Author.Tests.{ltb-true}
-use Rattle.laws.specs.Tests.{and_yes}
-use Rattle.halting.specs.Clauses.{Barred, unmet_of}
-use Rattle.halting.specs.Marks.{halts_few, halts_not, halts_unmet, halts_yes, halts_reach}
-use Rattle.halting.specs.Gathering.{gathered_count, gathered_most, gathered_named, gathered_reach}
-use Rattle.blocking.proofs.Obstacles.{stuck_at, free_at, all_clear}
+use Rattle.std.specs.Prelude.{◌-◌, ◌≤◌, ◌<◌, length}
+use Rattle.std.proofs.Common.{sym, ◌∙◌, arith}
+use Rattle.meeting.specs.Clauses.{view_of}
+use Rattle.halting.specs.Clauses.{legible, unmet_of}
+use Rattle.halting.specs.Marks.{halts_few, halts_not, halts_unmet}
+use Rattle.halting.specs.Gathering.{listed_count, listed_most}
+use Rattle.blocking.proofs.Obstacles.{clear_few, clear_counted}
 use Rattle.blocking.proofs.obstacle.Goals as goal
+use Rattle.blocking.proofs.obstacle.Goals.{else-met-rows-via-then-met-rows+else-bar-threshold, else-met-rows-via-else-met-rows, then-reach-k-via-then-reach-k, then-reach-k-via-else-reach-k+then-few_above}
 
 pub returns-then-top-eq0 : goal.returns-then-top-eq0
-returns-then-top-eq0 c = stuck_at _ _ _ _ _ c.requires.5 c.requires.6 (halts_few c.requires.0 c.requires.1 c.args.k c.requires.3 (c.requires.4.few c.if-top-eq0.true))
+returns-then-top-eq0 c =
+    let w = legible c.args.rows.sound c.requires.0 c.requires.1 in
+    record {
+      small = c.requires.6;
+      within = c.requires.7;
+      goes_on = halts_few w c.requires.2 c.args.k c.requires.4 (c.requires.5.few c.if-top-eq0.true);
+    }
 
-pub returns-then-unmet_in_the_way : goal.returns-then-unmet_in_the_way
-unfolding unmet_of
-returns-then-unmet_in_the_way c =
-    let barred : Barred c.args.n c.args.k c.args.marks.now (c.args.top - 1) =
-    c.requires.4.barred (omega (arith, c.if-top-eq0.false)) in
-    let both = and_yes (ltb c.args.count c.args.n) _ (sym c.unmet_in_the_way.ensures ∙ c.if-unmet_in_the_way.true) in
-    stuck_at _ _ _ _ _ c.requires.5 c.requires.6
-    (halts_unmet c.requires.0 c.requires.1 c.args.k _ c.requires.3 barred (ltb-true _ _ both.1)
-    (omega (arith, ltb-true c.args.count c.args.n both.0, gathered_count c.requires.2)))
+pub returns-then-bar-threshold : goal.returns-then-bar-threshold
+returns-then-bar-threshold c =
+    let w = legible c.args.rows.sound c.requires.0 c.requires.1 in
+    let barred = c.requires.5.barred (omega (arith, c.if-top-eq0.false)) in
+    record {
+      small = c.requires.6;
+      within = c.requires.7;
+      goes_on = halts_unmet w c.requires.2 c.args.k _ c.requires.4 barred
+          (omega (arith, c.if-bar-threshold.true, c.threshold.ensures)) (omega (arith, c.if-met-rows.true, listed_count c.requires.3));
+    }
 
-pub returns-then-found-count : goal.returns-then-found-count
-returns-then-found-count c =
-    let barred : Barred c.args.n c.args.k c.args.marks.now (c.args.top - 1) =
-    c.requires.4.barred (omega (arith, c.if-top-eq0.false)) in
-    let less : c.met_in_the_way-found.result < c.args.n = omega (arith, c.if-found-count.true, gathered_most c.requires.2) in
-    stuck_at _ _ _ _ _ less (omega (arith, c.if-found-count.true))
-    (halts_not c.requires.0 c.requires.1 c.args.k _ c.requires.3 barred _ (c.requires.2.items_small _ c.if-found-count.true)
-    (c.met_in_the_way-found.ensures.in_the_way c.if-found-count.true))
-
-pub reach-requires : goal.reach-requires
-reach-requires c =
-    let named = gathered_named c.requires.2 c.args.count (omega arith) in (
-      omega (arith, gathered_most c.requires.2, c.requires.0.n_most),
-      record {
-        within = named.within;
-        items_small = λ j h. omega (arith, named.items_small j h, c.requires.1.marks_long);
-      },
-    )
+pub returns-in-Some : goal.returns-in-Some
+returns-in-Some c =
+    let w = legible c.args.rows.sound c.requires.0 c.requires.1 in
+    let barred = c.requires.5.barred (omega (arith, c.if-top-eq0.false)) in
+    let found = c.in-Some.ensures in
+    record {
+      small = omega (arith, found.0, listed_most c.requires.3);
+      within = omega (arith, found.0);
+      goes_on = halts_not w c.requires.2 c.args.k _ c.requires.4 barred _ (c.requires.3.items_small _ found.0) found.1;
+    }
 
 pub returns-then-reach-k : goal.returns-then-reach-k
-unfolding unmet_of
 returns-then-reach-k c =
-    let barred : Barred c.args.n c.args.k c.args.marks.now (c.args.top - 1) =
-    c.requires.4.barred (omega (arith, c.if-top-eq0.false)) in
-    let clear = all_clear (c.args.top - 1) c.requires.0 c.requires.1 c.requires.2 (c.met_in_the_way-found.ensures.none_there (omega (arith, c.if-found-count.false)))
-    (sym c.unmet_in_the_way.ensures ∙ c.if-unmet_in_the_way.false) in
-    free_at _ _ _ _
-    (halts_reach c.requires.0 c.requires.1 c.args.k _ c.requires.3 barred clear
-    (omega (arith, gathered_reach c.requires.2 (c.args.top - 1), c.reach.ensures, c.if-reach-k.true)))
-
-pub returns-then-few_above : goal.returns-then-few_above
-unfolding unmet_of
-returns-then-few_above c =
-    let barred : Barred c.args.n c.args.k c.args.marks.now (c.args.top - 1) =
-    c.requires.4.barred (omega (arith, c.if-top-eq0.false)) in
-    let clear = all_clear (c.args.top - 1) c.requires.0 c.requires.1 c.requires.2 (c.met_in_the_way-found.ensures.none_there (omega (arith, c.if-found-count.false)))
-    (sym c.unmet_in_the_way.ensures ∙ c.if-unmet_in_the_way.false) in
-    free_at _ _ _ _
-    (halts_yes c.requires.0 c.requires.1 c.args.k _ c.requires.3 barred clear
-    ∙ sym c.few_above.ensures ∙ c.if-few_above.true)
+    let v = view_of c.args.rows.reading in
+    let w = legible c.args.rows.sound c.requires.0 c.requires.1 in
+    let barred = c.requires.5.barred (omega (arith, c.if-top-eq0.false)) in
+    let unmet : length c.args.met.now < v.n → unmet_of v c.args.p ≤ c.args.top - 1 =
+    elim c.else-met-rows.branch [
+      | else-met-rows-via-then-met-rows+else-bar-threshold w ↦ λ _. omega (arith, w.if-bar-threshold.false, w.threshold.ensures)
+      | else-met-rows-via-else-met-rows w ↦ λ h. absurd (omega (arith, h, w.if-met-rows.false))
+    ] in
+    elim c.then-reach-k.branch [
+      | then-reach-k-via-then-reach-k b ↦
+          clear_few w c.requires.2 c.requires.3 c.requires.4 barred c.in_default.ensures unmet (omega (arith, c.reach.ensures, b.if-reach-k.true))
+      | then-reach-k-via-else-reach-k+then-few_above b ↦
+          clear_counted w c.requires.2 c.requires.3 c.requires.4 barred c.in_default.ensures unmet
+          ∙ sym b.few_above.ensures ∙ b.if-few_above.true
+    ]
 
 pub returns : goal.returns
-unfolding unmet_of
 returns c =
-    let barred : Barred c.args.n c.args.k c.args.marks.now (c.args.top - 1) =
-    c.requires.4.barred (omega (arith, c.if-top-eq0.false)) in
-    let clear = all_clear (c.args.top - 1) c.requires.0 c.requires.1 c.requires.2 (c.met_in_the_way-found.ensures.none_there (omega (arith, c.if-found-count.false)))
-    (sym c.unmet_in_the_way.ensures ∙ c.if-unmet_in_the_way.false) in
-    stuck_at _ _ _ _ _ c.requires.5 c.requires.6
-    (halts_yes c.requires.0 c.requires.1 c.args.k _ c.requires.3 barred clear
-    ∙ sym c.few_above.ensures ∙ c.if-few_above.false)
+    let v = view_of c.args.rows.reading in
+    let w = legible c.args.rows.sound c.requires.0 c.requires.1 in
+    let barred = c.requires.5.barred (omega (arith, c.if-top-eq0.false)) in
+    let unmet : length c.args.met.now < v.n → unmet_of v c.args.p ≤ c.args.top - 1 =
+    elim c.else-met-rows.branch [
+      | else-met-rows-via-then-met-rows+else-bar-threshold w ↦ λ _. omega (arith, w.if-bar-threshold.false, w.threshold.ensures)
+      | else-met-rows-via-else-met-rows w ↦ λ h. absurd (omega (arith, h, w.if-met-rows.false))
+    ] in
+    record {
+      small = c.requires.6;
+      within = c.requires.7;
+      goes_on = clear_counted w c.requires.2 c.requires.3 c.requires.4 barred c.in_default.ensures unmet
+          ∙ sym c.few_above.ensures ∙ c.if-few_above.false;
+    }

@@ -1,10 +1,8 @@
 -- `filling::fill` meets its contract: a pair more is written at its place (`fill_more`).
 -- Assumes nothing.
-use mathlib.Core.Path.{◌≡◌, refl}
-use Prim.Native.Nat.{◌<◌}
+use mathlib.Core.Path.{refl}
 use native.Mathlib.Numerals.{add-one}
 use native.Mathlib.Omega.{arith}
-use lib.ListN.{length, length-set}
 use Rattle.model.specs.Words.{row, over}
 use Rattle.filling.specs.Clauses.{every_fourth}
 use Rattle.laws.specs.Lists.{fill_more}
@@ -12,19 +10,10 @@ use Rattle.filling.proofs.fill.Goals as goal
 
 pub loop-j-init : goal.loop-j-init
 unfolding over row
-loop-j-init c = (omega arith, refl, refl)
+loop-j-init c = refl
 
 pub loop-j-preserved : goal.loop-j-preserved
 loop-j-preserved c =
     let j = c.loop-j.j in
     let f = every_fourth c.args.bytes.now c.args.from in
-    let room : j < length c.args.slice.now = omega (arith, c.requires.room) in (
-      omega arith,
-      simp length-set c.loop-j.invariant.1,
-      rw (c.loop-j.invariant.2, c.pair_at.ensures.0, add-one j) (fill_more f j c.args.slice.now room),
-    )
-
-pub returns : goal.returns
-returns c =
-    let j_is_size : c.loop-j.j ≡ c.args.size = omega arith in
-    rw (← j_is_size) c.loop-j.invariant.2
+    rw (c.loop-j.invariant, c.pair_at.ensures.0, add-one j) (fill_more f j c.args.slice.now (omega (arith, c.requires.room)))

@@ -1,13 +1,14 @@
--- `passing::note_whole` meets its contract: by what each sweep found (`all_pass`), or the one that found something.
+-- `passing::note_whole` meets its contract: by what each sweep found (`all_pass`), or one that found something.
 -- Assumes nothing.
-use mathlib.Core.Path.{◌≡◌, sym, ◌∙◌}
-use mathlib.Core.Bool.{false, true≢false, false≢true}
+use Rattle.std.proofs.Common.{rules, arith}
+use mathlib.Core.Path.{◌≡◌, refl, sym, ◌∙◌}
+use mathlib.Core.Bool.{Bool, true, false, not, true≢false, false≢true}
 use mathlib.Core.List.{List}
-use Prim.Native.Nat.{ℕ, ◌*◌, ◌<◌}
+use Prim.Native.Nat.{ℕ, ◌<◌}
 use Rattle.model.specs.Given.{Poses, item}
 use Rattle.model.specs.Refusals.{accepted, in_lists}
-use Rattle.entries.specs.Clauses.{poses}
-use Rattle.entries.specs.Cleared.{cleared}
+use Rattle.model.specs.Answers.{places}
+use Rattle.poses.specs.Sets.{set_of}
 use Rattle.passing.specs.Clauses.{WholeNoted}
 use Rattle.passing.proofs.Whole.{all_small, all_pass, not_great, not_rising, not_empty}
 use Rattle.passing.proofs.note_whole.Goals as goal
@@ -15,44 +16,38 @@ use Rattle.passing.proofs.note_whole.Goals as goal
 damaged_here : (s : Poses) {after : List ℕ} → (in_lists s ≡ accepted → ⊥) → WholeNoted s false after
 damaged_here s bad = record { passes = λ told. absurd (false≢true told); damaged = λ _. bad; notes = λ told. absurd (false≢true told) }
 
-pub returns-then-n-most : goal.returns-then-n-most
-returns-then-n-most c =
-    let s = poses c.args.m c.args.n c.args.items.now c.args.scores.now in
+pub returns-then-set-most : goal.returns-then-set-most
+returns-then-set-most c =
+    let s = set_of c.args.set in
     damaged_here s
-    (λ all. not_great s all c.requires.0.n_least c.requires.0.items_long c.greatest-most.ensures c.if-n-most.true)
+    (λ all. not_great s all c.requires.0.n_least c.requires.0.items_long c.greatest.ensures (rw (← c.from-most.ensures) c.if-set-most.true))
 
 pub note_until_rise-requires : goal.note_until_rise-requires
 note_until_rise-requires c =
-    let s = poses c.args.m c.args.n c.args.items.now c.args.scores.now in
+    let s = set_of c.args.set in
     let small : (i p : ℕ) → i < s.m → p < s.n → item s i p < s.n =
-    all_small s c.requires.0.items_long c.greatest-most.ensures c.if-n-most.false in
-    let zeros = c.clear.ensures ∙ cleared (c.args.m * c.args.n) c.args.places.now c.requires.1 in
-    record {
-      within = c.requires.0;
-      small = small;
-      empty = zeros;
-    }
+    all_small s c.requires.0.items_long c.greatest.ensures (omega (arith, c.from-most.ensures, c.if-set-most.false)) in
+    record { within = c.requires.0; small = small; empty = rw c.requires.1 at c.fill.ensures.after (λ y e. e) }
 
-pub returns-then-note_until_rise : goal.returns-then-note_until_rise
-returns-then-note_until_rise c =
-    let s = poses c.args.m c.args.n c.args.items.now c.args.scores.now in
-    damaged_here s (λ all. not_rising s all (c.note_until_rise.ensures.rising c.if-note_until_rise.true))
+-- whether a place is left empty decides
+by_places : (s : Poses) {after : List ℕ} (empty : Bool) → (empty ≡ true → in_lists s ≡ accepted → ⊥)
+    → (empty ≡ false → (in_lists s ≡ accepted) × (after ≡ places s)) → WholeNoted s (not empty) after
+by_places s true bad good = damaged_here s (bad refl)
+by_places s false bad good =
+    record { passes = λ _. (good refl).0; damaged = λ told. absurd (true≢false told); notes = λ _. (good refl).1 }
 
-pub returns-then-has_zero : goal.returns-then-has_zero
-returns-then-has_zero c =
-    let s = poses c.args.m c.args.n c.args.items.now c.args.scores.now in
-    damaged_here s
-    (λ all.
-    not_empty s all (c.note_until_rise.ensures.swept c.if-note_until_rise.false)
-    (sym c.has_zero.ensures ∙ c.if-has_zero.true))
-
-pub returns : goal.returns
-returns c =
-    let s = poses c.args.m c.args.n c.args.items.now c.args.scores.now in
+pub returns-then-not-note_until_rise : goal.returns-then-not-note_until_rise
+returns-then-not-note_until_rise c =
+    let s = set_of c.args.set in
+    let swept = c.note_until_rise.ensures.swept (search rules) in
     let small : (i p : ℕ) → i < s.m → p < s.n → item s i p < s.n =
-    all_small s c.requires.0.items_long c.greatest-most.ensures c.if-n-most.false in
-    let good =
-    all_pass s small
-    (c.note_until_rise.ensures.swept c.if-note_until_rise.false)
-    (sym c.has_zero.ensures ∙ c.if-has_zero.false) in
-    record { passes = λ _. good.0; damaged = λ told. absurd (true≢false told); notes = λ _. good.1 }
+    all_small s c.requires.0.items_long c.greatest.ensures (omega (arith, c.from-most.ensures, c.if-set-most.false)) in
+    by_places s c.has_zero.result
+    (λ empty all. not_empty s all swept (sym c.has_zero.ensures ∙ empty))
+    (λ full. all_pass s small swept (sym c.has_zero.ensures ∙ full))
+
+pub returns-else-not-note_until_rise : goal.returns-else-not-note_until_rise
+returns-else-not-note_until_rise c =
+    let s = set_of c.args.set in
+    let up : c.note_until_rise.result ≡ true = search rules in
+    rw up (damaged_here s (λ all. not_rising s all (c.note_until_rise.ensures.rising up)))

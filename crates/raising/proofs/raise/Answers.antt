@@ -1,16 +1,10 @@
--- `raising::raise` meets its contract: a mark that is not above the least leaves all as it is, any other is slid in, and the entry
--- of the old mark or the least goes.
+-- `raising::raise` meets its contract: a mark above the least is slid in, and the entry of the old mark or the least goes.
 -- Assumes nothing.
-use Prim.Native.Nat.{◌≤◌}
-use native.Mathlib.Omega.{arith}
-use lib.Dec.{leb}
-use borrow.Author.Tests.{leb-true, leb-false}
+use Rattle.std.specs.Prelude.{◌≤◌, leb}
+use Rattle.std.proofs.Common.{arith, leb-true, leb-false}
 use Rattle.laws.specs.Tests.{by_cases}
-use Rattle.raising.proofs.Raising.{raised_stays, raised_slid}
+use Rattle.raising.proofs.Raising.{raised_slid}
 use Rattle.raising.proofs.raise.Goals as goal
-
-pub returns-then-new-tops : goal.returns-then-new-tops
-returns-then-new-tops c = raised_stays c.requires.0 c.if-new-tops.true
 
 pub returns : goal.returns
 returns c =

@@ -1,32 +1,28 @@
 -- `records::read_lists` meets its contract: the record is refused, or a slice is too short, or both slices are filled, each
 -- by one call of `fill`.
 -- Assumes nothing.
-use Prim.Native.Nat.{◌*◌, ◌≤◌}
-use native.Mathlib.Omega.{arith}
-use lib.ListN.{length}
-use Rattle.records.specs.Held.{lists_accepted}
-use Rattle.records.proofs.Reading.{sizes_read, items_short, scores_short, lists_taken}
+use Rattle.std.proofs.Common.{rules}
+use Rattle.records.proofs.Reading.{sizes_read, head_refused, items_short, scores_short, lists_taken}
 use Rattle.records.proofs.read_lists.Goals as goal
+use Rattle.records.proofs.read_lists.Goals.{then-items-size-via-then-items-size, then-items-size-via-else-items-size+then-scores-size}
+
+pub returns-in_err-lists_head : goal.returns-in_err-lists_head
+returns-in_err-lists_head c =
+    let left = head_refused c.args.bytes.now c.args.items.now c.args.scores.now c.in_err-lists_head.field-0.0 c.in_err-lists_head.ensures.tells in
+    search rules
 
 pub returns-then-items-size : goal.returns-then-items-size
 returns-then-items-size c =
-    let passed = lists_accepted c.args.bytes.now c.lists_head-number.ensures (omega arith) in
-    let sizes = sizes_read c.args.bytes.now passed c.lists_m-m.ensures.0 c.lists_n-n.ensures.0 in
-    items_short c.args.bytes.now c.args.items.now c.args.scores.now sizes c.if-items-size.true
-    c.lists_refused-then-items-size.ensures
-
-pub returns-then-scores-size : goal.returns-then-scores-size
-returns-then-scores-size c =
-    let passed = lists_accepted c.args.bytes.now c.lists_head-number.ensures (omega arith) in
-    let sizes = sizes_read c.args.bytes.now passed c.lists_m-m.ensures.0 c.lists_n-n.ensures.0 in
-    scores_short c.args.bytes.now c.args.items.now c.args.scores.now sizes c.if-items-size.false c.if-scores-size.true
-    c.lists_refused-then-scores-size.ensures
+    let a = c.args in
+    let sizes = sizes_read a.bytes.now c.in_ok-lists_head.ensures.passes c.lists_m-m.ensures.0 c.lists_n-n.ensures.0 in
+    elim c.then-items-size.branch [
+      | then-items-size-via-then-items-size w ↦ items_short a.bytes.now a.items.now a.scores.now sizes w.if-items-size.true
+      | then-items-size-via-else-items-size+then-scores-size w ↦
+          scores_short a.bytes.now a.items.now a.scores.now sizes w.if-items-size.false w.if-scores-size.true
+    ]
 
 pub returns : goal.returns
 returns c =
-    let passed = lists_accepted c.args.bytes.now c.lists_head-number.ensures (omega arith) in
-    let sizes = sizes_read c.args.bytes.now passed c.lists_m-m.ensures.0 c.lists_n-n.ensures.0 in
-    let items_room : c.lists_m-m.result * c.lists_n-n.result ≤ length c.args.items.now = omega arith in
-    let scores_room : c.lists_m-m.result * c.lists_n-n.result ≤ length c.args.scores.now = omega arith in
-    lists_taken c.args.bytes.now c.args.items.now c.args.scores.now sizes items_room scores_room (omega arith)
-    c.fill.ensures c.fill-2.ensures
+    let a = c.args in
+    let sizes = sizes_read a.bytes.now c.in_ok-lists_head.ensures.passes c.lists_m-m.ensures.0 c.lists_n-n.ensures.0 in
+    lists_taken a.bytes.now a.items.now a.scores.now sizes c.if-items-size.false c.if-scores-size.false c.fill.ensures c.fill-2.ensures

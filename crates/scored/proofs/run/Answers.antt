@@ -1,60 +1,54 @@
 -- `scored::run` meets its contract: one row or round more is made (`row_made`), and its test ends the search or not.
 -- Assumes nothing.
-use mathlib.Core.Path.{◌≡◌, sym, ◌∙◌}
+use mathlib.Core.Path.{◌≡◌, refl, sym, ◌∙◌}
 use mathlib.Core.List.{◌++◌}
-use Prim.Native.Nat.{ℕ, ◌*◌, ◌≤◌}
-use native.Mathlib.Omega.{arith}
+use Prim.Native.Nat.{ℕ, ◌*◌}
 use lib.ListN.{length, drop, replicate, length-replicate}
+use Rattle.std.proofs.Common.{rules}
 use Rattle.model.specs.Words.{over}
 use Rattle.laws.specs.Lists.{zeros_at}
-use Rattle.entries.specs.Clauses.{poses}
-use Rattle.meeting.specs.Clauses.{query_with}
-use Rattle.scored.proofs.Between.{between_starts, standing_between, advancing_then, row_made, limited_after, lows_after, after_goes_on, run_ends}
+use Rattle.scored.proofs.Between.{between_starts, stepping_between, advancing_then, row_made, limited_after, after_goes_on, run_ends}
 use Rattle.scored.proofs.run.Goals as goal
 
-pub loop-weights-init : goal.loop-weights-init
-loop-weights-init c =
-    between_starts c.args.which (poses c.args.m c.args.n c.args.items.now c.args.scores.now) (query_with c.args.rule c.args.weights) c.args.k
-    c.args.picks.now c.args.lows.now c.clear.new.tally c.args.tally.now (replicate 8 0) c.requires.readable.lists_valid c.clear.ensures
-    c.clear.auto.tally (zeros_at 8)
-
-pub step-t-requires : goal.step-t-requires
-step-t-requires c =
-    let room : c.args.m * c.args.n ≤ length c.clear.new.tally = omega (arith, c.requires.tally_long, c.clear.auto.tally) in
-    let b = c.loop-weights.invariant in
+pub loop-p-init : goal.loop-p-init
+loop-p-init g c =
+    let none = zeros_at 8 in
     record {
-      standing = standing_between _ _ _ _ _ _ _ c.requires.readable _ _ _ _ _ c.requires.keeps room b;
-      reached = b.reached;
-      not_last = b.not_last;
+      same = search rules;
+      between = between_starts _ c.args.accepted _ _ c.args.tally.now _ refl c.requires.tally_long c.clear.ensures c.clear.auto.tally none;
     }
 
-pub places-best-requires : goal.places-best-requires
-places-best-requires c =
-    let room : c.args.m * c.args.n ≤ length c.clear.new.tally = omega (arith, c.requires.tally_long, c.clear.auto.tally) in
-    advancing_then _ _ _ _ _ _ _ c.requires.readable _ _ _ _ _ c.requires.keeps room c.loop-weights.invariant c.step-t.ensures
+pub step-found-requires : goal.step-found-requires
+step-found-requires g c = stepping_between c.args.accepted c.loop-p.invariant.between
+
+pub positions-requires : goal.positions-requires
+positions-requires g c = advancing_then c.args.accepted c.loop-p.invariant.between c.step-found.ensures.steps
 
 pub ends-requires : goal.ends-requires
-ends-requires c =
-    let room : c.args.m * c.args.n ≤ length c.clear.new.tally = omega (arith, c.requires.tally_long, c.clear.auto.tally) in
-    let later = row_made _ _ _ _ _ _ _ c.requires.readable _ _ _ _ _ c.requires.keeps room c.loop-weights.invariant c.step-t.ensures c.places-best.ensures in (
-      limited_after _ _ _ _ _ _ _ c.requires.readable _ _ _ _ _ c.requires.keeps room later,
-      c.requires.keeps.room.k_least,
-      lows_after _ _ _ _ _ _ _ c.requires.readable _ _ _ _ _ c.requires.keeps room later,
-    )
+ends-requires g c =
+    let step = c.step-found.ensures in
+    limited_after c.args.accepted
+    (row_made c.args.accepted c.loop-p.invariant.between step.steps step.same.count_same c.positions.ensures)
 
 pub returns-then-ends : goal.returns-then-ends
 unfolding over
-returns-then-ends c =
-    let room : c.args.m * c.args.n ≤ length c.clear.new.tally = omega (arith, c.requires.tally_long, c.clear.auto.tally) in
-    let later = row_made _ _ _ _ _ _ _ c.requires.readable _ _ _ _ _ c.requires.keeps room c.loop-weights.invariant c.step-t.ensures c.places-best.ensures in
-    let size = c.args.m * c.args.n in
+returns-then-ends g c =
+    let a = c.args.accepted in
+    let size = a.reading.set.lists * a.reading.set.poses in
+    let step = c.step-found.ensures in
+    let start = c.loop-p.invariant.same in
+    let later = row_made a c.loop-p.invariant.between step.steps step.same.count_same c.positions.ensures in
+    let test = sym (rw c.last_score-last.ensures at c.ends.ensures) ∙ c.if-ends.true in
     let cleared : c.clear.new.tally ≡ replicate size 0 ++ drop (length (replicate {A = ℕ} size 0)) c.args.tally.now =
     c.clear.ensures ∙ rw (length-replicate {A = ℕ} size 0) in
-    run_ends _ _ _ _ _ _ _ c.requires.readable _ _ _ _ _ c.requires.keeps room later
-    c.args.tally.now (sym c.ends.ensures ∙ c.if-ends.true) c.counts.ensures cleared
+    let ran = rw (step.same.count_same ∙ start.count_same) at (run_ends a later c.args.tally.now test c.counts.ensures cleared) in
+    search (rules, ran, start, step.same)
 
-pub loop-weights-preserved : goal.loop-weights-preserved
-loop-weights-preserved c =
-    let room : c.args.m * c.args.n ≤ length c.clear.new.tally = omega (arith, c.requires.tally_long, c.clear.auto.tally) in
-    let later = row_made _ _ _ _ _ _ _ c.requires.readable _ _ _ _ _ c.requires.keeps room c.loop-weights.invariant c.step-t.ensures c.places-best.ensures in
-    after_goes_on _ _ _ _ _ _ _ c.requires.readable _ _ _ _ _ c.requires.keeps room later (sym c.ends.ensures ∙ c.if-ends.false)
+pub loop-p-preserved : goal.loop-p-preserved
+loop-p-preserved g c =
+    let a = c.args.accepted in
+    let step = c.step-found.ensures in
+    let start = c.loop-p.invariant.same in
+    let later = row_made a c.loop-p.invariant.between step.steps step.same.count_same c.positions.ensures in
+    let test = sym (rw c.last_score-last.ensures at c.ends.ensures) ∙ c.if-ends.false in
+    record { same = search (rules, start, step.same); between = after_goes_on a later test }

@@ -1,14 +1,13 @@
--- `scored::run` meets its contract. The loop's invariant: p rows or rounds are made and none of them ends the search (`Between`);
--- the measure is how many rows are left.
+-- `scored::run` meets its contract. The loop's invariant: p rows or rounds are made and none of them ends the search (`Between`).
 -- Assumes nothing.
-use Prim.Native.Nat.{◌-◌}
-use Rattle.entries.specs.Clauses.{poses}
-use Rattle.meeting.specs.Clauses.{query_with}
+use Rattle.noting.specs.Shortlists.{IsSameShortlist}
 use Rattle.scored.proofs.Between.{Between}
 use Rattle.scored.proofs.run.Given as goal
 
-abbrev pub invariant-loop-weights : goal.invariant-loop-weights
-invariant-loop-weights l = Between l.which (poses l.m l.n l.items l.scores) (query_with l.rule l.weights) l.k l.initial.picks l.initial.lows l.initial.tally l.filled l.picks l.lows l.tally l.best l.found l.p
-
-abbrev pub decreases-loop-weights : goal.decreases-loop-weights
-decreases-loop-weights l = l.n - l.p
+abbrev pub invariant-loop-p : goal.invariant-loop-p
+invariant-loop-p g l =
+    record {
+      same : IsSameShortlist l.initial.shortlist l.shortlist;
+      between : Between g.M.Judged.number l.reading l.initial.shortlist.picks.now l.initial.shortlist.lows.now l.initial.tally l.shortlist l.tally l.best
+          l.found l.p;
+    }

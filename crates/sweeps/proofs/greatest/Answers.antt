@@ -1,14 +1,13 @@
--- `sweeps::greatest` meets its contract: a number more is the greatest or is not (`greatest_next`).
+-- `sweeps::greatest` meets its contract: `max` picks one of the numbers, and none is above it (`greatest_picked`).
 -- Assumes nothing.
-use native.Mathlib.Omega.{arith}
-use Rattle.sweeps.proofs.Most.{greatest_start, greatest_next}
+use Rattle.std.specs.Prelude.{EachIndex, Contains}
+use Rattle.std.proofs.Common.{◌≡◌, ◌≤◌, ◌⊎◌, get_or, rules}
+use Rattle.sweeps.proofs.Most.{greatest_picked}
 use Rattle.sweeps.proofs.greatest.Goals as goal
 
-pub loop-q-init : goal.loop-q-init
-loop-q-init c = (omega arith, greatest_start c.args.numbers.now)
-
-pub loop-q-preserved : goal.loop-q-preserved
-loop-q-preserved c = (
-  omega (arith, c.loop-q-test.true),
-  greatest_next c.args.numbers.now c.loop-q.q c.loop-q.invariant.1 (λ above. grind arith) (λ below. grind arith),
-)
+pub returns : goal.returns
+returns c =
+    let most = c.unwrap_or.result in
+    let least : EachIndex c.args.numbers.now (λ k. get_or c.args.numbers.now k 0 ≤ most) = search rules in
+    let one : (most ≡ 0) ⊎ Contains c.args.numbers.now most = search rules in
+    greatest_picked c.args.numbers.now most least one

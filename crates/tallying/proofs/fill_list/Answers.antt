@@ -1,21 +1,15 @@
--- `tallying::fill_list` meets its contract: ones are written over the first p entries, zeros over the others, and that is the row
--- of the definition (`two_fills`).
+-- `tallying::fill_list` meets its contract: ones over the first p entries, and zeros over the others, are the row of the
+-- definition (`ones_then_zeros`).
 -- Assumes nothing.
-use mathlib.Core.Path.{◌≡◌, ap, ◌∙◌}
-use Prim.Native.Nat.{ℕ, ◌-◌}
-use native.Mathlib.Omega.{arith}
+use Rattle.std.proofs.Common.{rules}
+use mathlib.Core.Path.{◌≡◌}
+use Prim.Native.Nat.{◌-◌}
 use lib.ListN.{length, replicate}
-use borrow.Rule.Slice.PartMut.{mid_of, put_mid, mid_len, same_len_mid}
-use Rattle.tallying.proofs.Filling.{two_fills}
+use Rattle.tallying.proofs.Filling.{ones_then_zeros}
 use Rattle.tallying.proofs.fill_list.Goals as goal
 
 pub returns : goal.returns
 returns c =
-    let end = length c.args.row.now in
-    let first-long : length (mid_of 0 (c.args.p - 0) c.args.row.now) ≡ c.args.p = mid_len 0 c.args.p c.args.row.now c.requires ∙ omega arith in
-    let ones : c.fill.new.part ≡ replicate c.args.p 1 = c.fill.ensures ∙ ap (λ (k : ℕ). replicate k 1) first-long in
-    let between = put_mid 0 (c.args.p - 0) c.args.row.now c.fill.new.part in
-    let between-long = same_len_mid 0 (c.args.p - 0) c.args.row.now c.fill.new.part c.fill.auto.part in
-    let zeros : c.fill-2.new.part ≡ replicate (end - c.args.p) 0 =
-    c.fill-2.ensures ∙ ap (λ (k : ℕ). replicate k 0) (mid_len c.args.p end between (omega (arith, between-long))) in
-    rw (ones, zeros) (two_fills c.args.p c.args.row.now c.requires)
+    let ones : c.fill.new.self ≡ replicate c.args.p 1 = search rules in
+    let zeros : c.fill-2.new.self ≡ replicate (length c.args.row.now - c.args.p) 0 = search rules in
+    rw (ones, zeros) (ones_then_zeros c.args.p (length c.args.row.now) c.requires)

@@ -14,8 +14,8 @@ returns c =
     record {
       weight = λ j.
           by_cases (ltb j c.args.m)
-          (λ (y : ltb j c.args.m ≡ true). c.loop-i.invariant.2 j (omega (arith, ltb-true j c.args.m y)))
+          (λ (y : ltb j c.args.m ≡ true). c.loop-i.invariant.1 j (omega (arith, ltb-true j c.args.m y)))
           (λ (z : ltb j c.args.m ≡ false).
           let past = ltb-false j c.args.m z in
-          c.loop-i.invariant.3 j (omega arith) ∙ sym (weight_past c.args.weights.now c.args.m j c.requires.1 past));
+          c.loop-i.invariant.2 j (omega arith) ∙ sym (weight_past c.args.weights.now c.args.m j c.requires.1 past));
     }

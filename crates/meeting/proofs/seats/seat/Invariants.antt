@@ -1,4 +1,4 @@
--- `meeting::seats::seat` meets its contract. The loop's invariant: the item stands before each from j on; the measure is j.
+-- `meeting::seats::seat` meets its contract. The loop's invariant: the item stands before each from j on.
 -- Assumes nothing.
 use mathlib.Core.Path.{◌≡◌}
 use mathlib.Core.Bool.{true}
@@ -8,7 +8,4 @@ use Rattle.meeting.specs.Clauses.{ahead_of}
 use Rattle.meeting.proofs.seats.seat.Given as goal
 
 abbrev pub invariant-loop-j : goal.invariant-loop-j
-invariant-loop-j l = (l.j ≤ l.filled) × ((i : ℕ) → l.j ≤ i → i < l.filled → ahead_of l.d l.low l.high (get_or l.picks i 0) (get_or l.lows i 0) (get_or l.highs i 0) ≡ true)
-
-abbrev pub decreases-loop-j : goal.decreases-loop-j
-decreases-loop-j l = l.j
+invariant-loop-j l = (i : ℕ) → l.j ≤ i → i < l.filled → ahead_of l.d l.low l.high (get_or l.picks i 0) (get_or l.lows i 0) (get_or l.highs i 0) ≡ true

@@ -1,3 +1,0 @@
--- Laws that the proofs of this crate cite.
---     Copying    bytes copied one by one
-mod Copying
