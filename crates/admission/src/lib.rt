@@ -1,4 +1,4 @@
-// The tests of a search before it runs: its own, in their order, then the list check.
+//! The tests of a search before it runs: its own, in their order, then the list check.
 #![tactic(auto)]
 
 ghost use Rattle.std.specs.Prelude.{◌≡◌, length, OnOk};
@@ -43,7 +43,7 @@ fn shape(set: PoseSet, query: Query, lengths: Lengths, work: usize) -> Result<()
     Ok(())
 }
 
-// All tests of a search: its own, then the list check, which fills the work slice.
+/// All tests of a search: its own, then the list check, which fills the work slice.
 pub fn admit(set: PoseSet, query: Query, lengths: Lengths, work: &mut [u16]) -> Result<(), Refusal>
     ensures { Admitted set.entry.lists set.entry.poses query.entry.rule query.entry.count
         query.entry.weights.now set.entry.items.now set.entry.scores.now lengths.picks lengths.lows

@@ -1,6 +1,6 @@
-// The library under C names. A slice is a pointer and then its number of elements, an array a
-// pointer: C lends no structs of slices, so each function takes them one by one. It is thin over a proved
-// one and tells the same numbers: what that one answers stands in the array that C lends.
+//! The library under C names. A slice is a pointer and then its number of elements, an array a
+//! pointer: C lends no structs of slices, so each function takes them one by one. It is thin over a proved
+//! one and tells the same numbers: what that one answers stands in the array that C lends.
 #![tactic(auto)]
 
 ghost use Rattle.model.specs.Searches.{TA, BPA, BPA2, NRA};
@@ -14,7 +14,7 @@ use poses::{PoseSet, Query, Room};
 use reporting::{check_told, lists_told, query_told, weights_told};
 use telling::searched;
 
-// The threshold algorithm.
+/// The threshold algorithm.
 #[unsafe(no_mangle)]
 pub extern "C" fn rutlark_ta(
     m: usize,
@@ -57,7 +57,7 @@ pub extern "C" fn rutlark_ta(
     searched(Method::Ta, set, query, &mut room, told)
 }
 
-// The best position algorithm.
+/// The best position algorithm.
 #[unsafe(no_mangle)]
 pub extern "C" fn rutlark_bpa(
     m: usize,
@@ -100,7 +100,7 @@ pub extern "C" fn rutlark_bpa(
     searched(Method::Bpa, set, query, &mut room, told)
 }
 
-// The best position algorithm that visits no position twice.
+/// The best position algorithm that visits no position twice.
 #[unsafe(no_mangle)]
 pub extern "C" fn rutlark_bpa2(
     m: usize,
@@ -143,7 +143,7 @@ pub extern "C" fn rutlark_bpa2(
     searched(Method::Bpa2, set, query, &mut room, told)
 }
 
-// NRA, by sorted accesses alone.
+/// NRA, by sorted accesses alone.
 #[unsafe(no_mangle)]
 pub extern "C" fn rutlark_nra(
     m: usize,
@@ -186,7 +186,7 @@ pub extern "C" fn rutlark_nra(
     searched(Method::Nra, set, query, &mut room, told)
 }
 
-// The list check by itself.
+/// The list check by itself.
 #[unsafe(no_mangle)]
 pub extern "C" fn rutlark_check_lists(
     m: usize,
@@ -208,7 +208,7 @@ pub extern "C" fn rutlark_check_lists(
     check_told(set, work, told)
 }
 
-// The read of a query record. The array's numbers are `usize`, as a search takes them.
+/// The read of a query record. The array's numbers are `usize`, as a search takes them.
 #[unsafe(no_mangle)]
 pub extern "C" fn rutlark_read_query(bytes: &[u8], told: &mut [usize; 5]) -> u32
     ensures { QueryTold bytes.now result told.new }
@@ -216,7 +216,7 @@ pub extern "C" fn rutlark_read_query(bytes: &[u8], told: &mut [usize; 5]) -> u32
     query_told(bytes, told)
 }
 
-// The read of a list record into two slices.
+/// The read of a list record into two slices.
 #[unsafe(no_mangle)]
 pub extern "C" fn rutlark_read_lists(
     bytes: &[u8],
@@ -230,9 +230,9 @@ pub extern "C" fn rutlark_read_lists(
     lists_told(bytes, items, scores, told)
 }
 
-// The weights that a query is to be searched with, as a part of the one record or the other. An
-// exported function returns no slice, so it tells the record, where the part starts in it and how many
-// bytes it is.
+/// The weights that a query is to be searched with, as a part of the one record or the other. An
+/// exported function returns no slice, so it tells the record, where the part starts in it and how many
+/// bytes it is.
 #[unsafe(no_mangle)]
 pub extern "C" fn rutlark_chosen_weights<'a>(
     query: &'a [u8],

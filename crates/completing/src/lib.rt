@@ -1,5 +1,5 @@
-// What completes a run once its last row is read: the highs, where whole scores are known, and NRA's
-// accesses by kind.
+//! What completes a run once its last row is read: the highs, where whole scores are known, and NRA's
+//! accesses by kind.
 #![tactic(auto)]
 
 ghost use Rattle.std.specs.Prelude.{◌≡◌, ◌≤◌, length, take};
@@ -8,8 +8,8 @@ ghost use Rattle.completing.specs.Clauses.{OnlySorted};
 
 use meeting::{Direct, Found, Random, Sorted};
 
-// Whole scores are known, so the highs are the lows. They are copied in a loop and not by `copy_from_slice`, which the compiler
-// makes a call of `memcpy`: a host need give `memset` alone.
+/// Whole scores are known, so the highs are the lows. They are copied in a loop and not by `copy_from_slice`, which the compiler
+/// makes a call of `memcpy`: a host need give `memset` alone.
 #[tactic(auto, using(crate::proofs::Copied::copied_none, crate::proofs::Copied::copied_more))]
 pub fn repeat_lows(k: usize, lows: &[u32], highs: &mut [u32])
     requires { (k ≤ length lows.now) × (k ≤ length highs.old) }
@@ -20,7 +20,7 @@ pub fn repeat_lows(k: usize, lows: &[u32], highs: &mut [u32])
     }
 }
 
-// NRA makes one sorted access of each list in each row, and no other.
+/// NRA makes one sorted access of each list in each row, and no other.
 pub fn only_sorted(lists: usize, rows: u32) -> Found
     requires { (lists ≤ 8) × (rows ≤ 1024) }
     ensures { OnlySorted lists rows result }

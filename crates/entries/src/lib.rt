@@ -1,5 +1,5 @@
-// One list of the list check, walked: its entries are looked at in reading order until one is refused, and each item's position is
-// noted.
+//! One list of the list check, walked: its entries are looked at in reading order until one is refused, and each item's position is
+//! noted.
 #![tactic(auto)]
 
 ghost use Rattle.std.specs.Prelude.{◌≡◌, ◌+◌, ◌<◌};
@@ -20,8 +20,8 @@ fn spot(i: usize, p: usize) -> Spot
     }
 }
 
-// Tests 7, 8, 9 position by position in list i, counted from 0. Each item that passes is noted at its own place of `places`, so an
-// item that stood earlier is seen there.
+/// Tests 7, 8, 9 position by position in list i, counted from 0. Each item that passes is noted at its own place of `places`, so an
+/// item that stood earlier is seen there.
 pub fn walk_list(i: usize, set: PoseSet, places: &mut [u16]) -> Result<(), Refusal>
     requires { Listed i set.poses set.items.now set.scores.now places.old }
     ensures { ListNoted i set.entry.poses set.entry.items.now set.entry.scores.now result places.new }

@@ -2,6 +2,8 @@
 --     met_of                  an item is met after p rows
 --     halts_of                NRA's test after p rows
 --     Sound, Legible, legible     what reading asks, after any rows and after p; the one gives the other
+--     at_row                  the same after another row
+--     bound_asks, limit_asks     what a bound asks of an item, and what a row's threshold asks, from that
 --     mark_of, Marked         an item's low as a number above 0 where it is met; each item's
 --     reach_of, Barred        how many marks are above a bar; the highest bar that k of them are above
 --     passes_of, above_of      an item does not stand in the way of stopping; how many highs are above a bar
@@ -13,9 +15,11 @@
 --     Blocks, Blocking       the first of some entries whose item stands in the way
 -- Assumes nothing.
 use Rattle.std.specs.Prelude.{◌≡◌, Bool, true, false, cond, ◌&&◌, ◌||◌, List, ℕ, suc, ◌+◌, ◌*◌, ◌≤◌, ◌<◌, eqb, leb, ltb, length, get_or, replicate, Option, Some, None}
+use Rattle.std.proofs.Common.{arith}
+use Rattle.std.proofs.lemmas.List.{get_or-replicate}
 use Rattle.model.specs.Words.{some_below}
 use Rattle.laws.specs.Passing.{passing}
-use Rattle.meeting.specs.Clauses.{View, bound_of, limit_at}
+use Rattle.meeting.specs.Clauses.{View, bound_of, Located, Small, Limited, limit_at}
 use Rattle.halting.specs.Bar.{halts, parts}
 
 -- item d is met after p rows: one of its positions is at most p
@@ -63,6 +67,50 @@ legible s least most =
       place_most = s.place_most;
       weights_small = s.weights_small;
       scores_small = s.scores_small;
+    }
+
+-- the same after another row
+pub at_row : {v : View} {r : ℕ} → Legible v r → (p : ℕ) → 1 ≤ p → p ≤ v.n → Legible v p
+at_row w p least most =
+    record {
+      m_most = w.m_most;
+      n_most = w.n_most;
+      row_least = least;
+      row_most = most;
+      scores_long = w.scores_long;
+      work_long = w.work_long;
+      place_least = w.place_least;
+      place_most = w.place_most;
+      weights_small = w.weights_small;
+      scores_small = w.scores_small;
+    }
+
+pub bound_asks : {v : View} {p : ℕ} (d : ℕ) → Legible v p → d < v.n
+    → Located v.m v.n d p v.scores v.work × Small v.weights v.scores
+bound_asks d w h = (
+  record {
+    m_most = w.m_most;
+    n_most = w.n_most;
+    item_small = h;
+    depth_least = w.row_least;
+    depth_most = w.row_most;
+    scores_long = w.scores_long;
+    work_long = w.work_long;
+    place_least = λ i hi. w.place_least i d hi h;
+    place_most = λ i hi. w.place_most i d hi h;
+  },
+  record { weights_small = w.weights_small; scores_small = w.scores_small },
+)
+
+-- what the threshold of row p asks, from that
+pub limit_asks : {v : View} {p : ℕ} → Legible v p → Limited v.m v.n (replicate 8 p) v.weights v.scores
+limit_asks {v} {p} w =
+    record {
+      m_most = w.m_most;
+      scores_long = w.scores_long;
+      at_least = λ i hi. rw (get_or-replicate {A = ℕ} 8 i p 0 (omega (arith, w.m_most))) w.row_least;
+      at_most = λ i hi. rw (get_or-replicate {A = ℕ} 8 i p 0 (omega (arith, w.m_most))) w.row_most;
+      small = record { weights_small = w.weights_small; scores_small = w.scores_small };
     }
 
 -- ---- the test

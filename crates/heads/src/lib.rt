@@ -1,5 +1,5 @@
-// The numbers of a query record and of a list record, and the tests of each.
-// Numbers are big-endian, and a record's length counts the bytes after itself.
+//! The numbers of a query record and of a list record, and the tests of each.
+//! Numbers are big-endian, and a record's length counts the bytes after itself.
 #![tactic(auto)]
 
 ghost use Rattle.std.specs.Prelude.{◌≡◌, ◌+◌, ◌≤◌, ◌<◌, length, OnOk};
@@ -10,7 +10,7 @@ ghost use Rattle.poses.specs.Refusals.{value_of};
 
 use poses::refusals::Refusal;
 
-// The number in the two bytes from `at` on, the higher one first.
+/// The number in the two bytes from `at` on, the higher one first.
 #[tactic(auto, unfolding(model::specs::Refusals::pair))]
 pub fn pair_at(bytes: &[u8], at: usize) -> usize
     requires { at + 1 < length bytes.now }
@@ -29,7 +29,7 @@ fn length_of(bytes: &[u8]) -> usize
     pair_at(bytes, 0) * 65536 + pair_at(bytes, 2)
 }
 
-// How many weights a query record says that it has.
+/// How many weights a query record says that it has.
 #[tactic(auto, unfolding(model::specs::Records::query_count))]
 pub fn query_count(query: &[u8]) -> usize
     requires { 9 ≤ length query.now }
@@ -38,7 +38,7 @@ pub fn query_count(query: &[u8]) -> usize
     usize::from(query[8])
 }
 
-// How many lists a list record says that it has.
+/// How many lists a list record says that it has.
 #[tactic(auto, unfolding(model::specs::Records::lists_m))]
 pub fn lists_m(lists: &[u8]) -> usize
     requires { 8 ≤ length lists.now }
@@ -47,7 +47,7 @@ pub fn lists_m(lists: &[u8]) -> usize
     usize::from(lists[5])
 }
 
-// How many items a list record says that it has.
+/// How many items a list record says that it has.
 #[tactic(auto, unfolding(model::specs::Records::lists_n))]
 pub fn lists_n(lists: &[u8]) -> usize
     requires { 8 ≤ length lists.now }
@@ -56,7 +56,7 @@ pub fn lists_n(lists: &[u8]) -> usize
     pair_at(lists, 6)
 }
 
-// The tests of a query record, in their order.
+/// The tests of a query record, in their order.
 #[tactic(auto, unfolding(model::specs::Records::query_head))]
 pub fn query_head(query: &[u8]) -> Result<(), Refusal>
     ensures tells { value_of result ≡ told (query_head query.now) }
@@ -78,7 +78,7 @@ pub fn query_head(query: &[u8]) -> Result<(), Refusal>
     Ok(())
 }
 
-// The tests of a list record but for its last, the room for its entries, which is of the slices.
+/// The tests of a list record but for its last, the room for its entries, which is of the slices.
 #[tactic(auto, using(laws::specs::Accepted::sized, laws::specs::Accepted::size_fits), unfolding(model::specs::Records::lists_head))]
 pub fn lists_head(lists: &[u8]) -> Result<(), Refusal>
     ensures tells { value_of result ≡ told (lists_head lists.now) }

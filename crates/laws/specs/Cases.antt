@@ -1,6 +1,6 @@
--- The sets of document 01's "Sets to try" and of the papers, as a search is lent them, and how a table of answers is tested.
+-- The sets of docs/SPECIFICATION.md, "Worked cases", and of the papers that it names, as a search is lent them, and how a table of answers is tested.
 --     ◌at◌, lending          an entry, "0 at 10"; what a search is lent, with the room that it asks for
---     case_a .. example1      the cases, in the documents' numbers
+--     case_a .. example1      the cases, in their numbers
 --     Row, asked             a search, what it is lent, and the answer that it must give
 --     gives, refuses         an answer; `exact`, `between`: a place of the shortlist
 --     right, every_right      the test of a row, of a table
@@ -91,7 +91,7 @@ tied_lows =
     lending 2 3 0 3 (1 ∷ 1 ∷ [])
     ((0 at 10 ∷ 2 at 5 ∷ 1 at 0 ∷ []) ++ (1 at 10 ∷ 2 at 3 ∷ 0 at 0 ∷ []))
 
--- document 000, figure 1
+-- figure 1 of "Best Position Algorithms for Top-k Queries"
 unfoldable pub figure1 : Lent
 figure1 =
     lending 3 12 0 3 (1 ∷ 1 ∷ 1 ∷ [])
@@ -99,7 +99,7 @@ figure1 =
     ++ (1 at 28 ∷ 5 at 27 ∷ 6 at 25 ∷ 4 at 24 ∷ 8 at 23 ∷ 0 at 21 ∷ 7 at 20 ∷ 2 at 14 ∷ 3 at 13 ∷ 11 at 12 ∷ 9 at 0 ∷ 10 at 0 ∷ [])
     ++ (2 at 30 ∷ 4 at 29 ∷ 7 at 28 ∷ 3 at 25 ∷ 1 at 24 ∷ 5 at 19 ∷ 10 at 15 ∷ 0 at 14 ∷ 8 at 12 ∷ 6 at 11 ∷ 9 at 0 ∷ 11 at 0 ∷ []))
 
--- document 000, figure 2
+-- figure 2 of the same
 unfoldable pub figure2 : Lent
 figure2 =
     lending 3 12 0 3 (1 ∷ 1 ∷ 1 ∷ [])
@@ -107,7 +107,7 @@ figure2 =
     ++ (1 at 28 ∷ 5 at 27 ∷ 6 at 25 ∷ 4 at 24 ∷ 8 at 23 ∷ 0 at 22 ∷ 11 at 20 ∷ 2 at 14 ∷ 3 at 13 ∷ 7 at 12 ∷ 9 at 0 ∷ 10 at 0 ∷ [])
     ++ (2 at 30 ∷ 4 at 29 ∷ 7 at 28 ∷ 3 at 27 ∷ 1 at 26 ∷ 5 at 25 ∷ 10 at 15 ∷ 0 at 13 ∷ 8 at 12 ∷ 6 at 11 ∷ 9 at 0 ∷ 11 at 0 ∷ []))
 
--- document 001, example 1, its scores times 100
+-- example 1 of "Efficient Top-k Query Algorithms Using K-skyband Partition", its scores times 100
 unfoldable pub example1 : Lent
 example1 =
     lending 2 6 0 2 (1 ∷ 1 ∷ [])

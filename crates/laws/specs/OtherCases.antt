@@ -1,6 +1,6 @@
 -- Further cases, computed as the sixteen rows are: C, B's lists under rules 1 and 2, one more for NRA's second key, figures 1
--- and 2 of document 000 and example 1 of document 001.
--- The values were worked out from document 01 by `reference/worked_rows.py`, which shares nothing with the definitions.
+-- and 2 of "Best Position Algorithms for Top-k Queries" and example 1 of "Efficient Top-k Query Algorithms Using K-skyband Partition".
+-- The values were worked out from the specification by `reference/worked_rows.py`, which shares nothing with the definitions.
 -- Assumes nothing.
 use Rattle.std.specs.Prelude.{◌≡◌, refl, true}
 use mathlib.Core.List.{List, [], ◌∷◌, Memᴰ}

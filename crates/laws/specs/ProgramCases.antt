@@ -1,4 +1,4 @@
--- The previewer's program on small inputs, computed: case B's input and output, whole, as document 01 prints them; a refusal of
+-- The previewer's program on small inputs, computed: case B's input and output, whole, as docs/SPECIFICATION.md prints them; a refusal of
 -- each part, in the order query, lists, searches; numbers as text.
 --     Spelled, spelled       a number and its text
 --     lines_of_b               the output of case B, in ASCII, a line to a line

@@ -1,5 +1,5 @@
 -- The two records and the chosen weights on small inputs, computed: case B's input, each number by itself, two faults
--- together, the three kinds of count. The expected values were worked out by hand from document 01.
+-- together, the three kinds of count. The expected values were worked out by hand from docs/SPECIFICATION.md.
 --     query_of_b, lists_of_b             case B's input, byte by byte
 --     QueryCase, queries_read        a query record, and the answer that its read must give
 --     ListsCase, lists_read          a list record with two slices, the answer, and both slices afterwards

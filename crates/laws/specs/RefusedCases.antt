@@ -4,7 +4,7 @@
 --     Check, checks_hold         the list check by itself: its answer and its work slice, accepted and refused
 --     Left, slices_hold          the five slices as a search leaves them, accepted and refused
 -- The slices to be written are lent two places longer than asked, full of nines, so that what stays as lent shows.
--- The values were worked out from document 01 by `reference/worked_rows.py`, which shares nothing with the definitions.
+-- The values were worked out from the specification by `reference/worked_rows.py`, which shares nothing with the definitions.
 -- Assumes nothing.
 use Rattle.std.specs.Prelude.{◌≡◌, refl, Bool, true, ◌&&◌, ℕ, ◌+◌, ◌*◌, replicate, take}
 use mathlib.Core.List.{List, [], ◌∷◌, ◌++◌, Memᴰ}

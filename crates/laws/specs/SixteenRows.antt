@@ -1,7 +1,7 @@
--- The sixteen rows of document 01: A, B, D and E under all four searches, as one table under one theorem about the rules.
+-- The sixteen rows of docs/SPECIFICATION.md, "Worked cases": A, B, D and E under all four searches, as one table under one theorem about the rules.
 -- antt computes the test of the whole table; `rows_hold` makes of it, for each row, that the search's answer is the one that
 -- stands there: rows, the three counts, every item:low:high and the whole tally.
--- The values were worked out from document 01 by `reference/worked_rows.py`, which shares nothing with the definitions.
+-- The values were worked out from the specification by `reference/worked_rows.py`, which shares nothing with the definitions.
 -- Assumes nothing.
 use Rattle.std.specs.Prelude.{◌≡◌, refl, true}
 use mathlib.Core.List.{List, [], ◌∷◌, Memᴰ}

@@ -4,7 +4,7 @@
 --     ReadableRow    what reading a row asks, apart from the marks
 --     stands, row_mark, Begun     an item stands at row p of one of the first i lists; its mark, and every item's, once these lists' row p is read
 --     Partway        what is kept then
---     IsSameLedger   a ledger's slices are the ones that were lent
+--     IsSameLedger   a ledger's slices are the ones that were lent, as long as they were
 -- Assumes nothing.
 use Rattle.std.specs.Prelude.{◌≡◌, Bool, cond, List, ℕ, ◌+◌, ◌-◌, ◌*◌, ◌≤◌, ◌<◌, eqb, length, get_or}
 use Rattle.model.specs.Words.{some_below}
@@ -62,3 +62,6 @@ pub record IsSameLedger (a b : Ledger) : Type 0 where
   pub marks_same : b.marks.ghost_name ≡ a.marks.ghost_name
   pub tops_same : b.tops.ghost_name ≡ a.tops.ghost_name
   pub met_same : b.met.ghost_name ≡ a.met.ghost_name
+  pub marks_long : length b.marks.now ≡ length a.marks.now
+  pub tops_long : length b.tops.now ≡ length a.tops.now
+  pub met_long : length b.met.now ≡ length a.met.now

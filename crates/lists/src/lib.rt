@@ -1,5 +1,5 @@
-// The list check and the place table: each item's position in each list is noted in the work slice, or the first refusal in reading
-// order is found.
+//! The list check and the place table: each item's position in each list is noted in the work slice, or the first refusal in reading
+//! order is found.
 #![tactic(auto)]
 
 ghost use Rattle.std.specs.Prelude.{◌≡◌};
@@ -12,7 +12,7 @@ use passing::note_whole;
 use poses::PoseSet;
 use poses::refusals::Refusal;
 
-// Test 1: m is not 1 to 8 or n not 1 to 1,024.
+/// Test 1: m is not 1 to 8 or n not 1 to 1,024.
 #[tactic(auto, unfolding(model::specs::Refusals::wrong_size))]
 pub fn wrong_size(m: usize, n: usize) -> bool
     ensures { result ≡ wrong_size m n }
@@ -45,8 +45,8 @@ fn note_lists(set: PoseSet, work: &mut [u16]) -> Result<(), Refusal>
     walk_lists(set, work)
 }
 
-// The list check by itself: tests 1, 5 and 6, then 7 to 9 at each position. After 1, 5, 6 the work slice
-// is as lent, after 7 to 9 its first m x n entries are 0, and of accepted lists it has the positions.
+/// The list check by itself: tests 1, 5 and 6, then 7 to 9 at each position. After 1, 5, 6 the work slice
+/// is as lent, after 7 to 9 its first m x n entries are 0, and of accepted lists it has the positions.
 #[tactic(auto, using(laws::specs::Accepted::sized, laws::specs::Accepted::size_fits), unfolding(model::specs::Answers::checked, model::specs::Answers::checked_work, model::specs::Answers::work_after, model::specs::Refusals::check_verdict, model::specs::Refusals::check_shape, model::specs::Refusals::no_lists, model::specs::Refusals::short))]
 pub fn check_lists(set: PoseSet, work: &mut [u16]) -> Result<(), Refusal>
     ensures { ListsChecked (set_of set.entry) work.old result work.new }

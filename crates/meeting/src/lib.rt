@@ -33,7 +33,8 @@ pub struct Found {
     pub random: Random,
 }
 
-/// What a search reads once its tests are passed.
+/// What scores and bounds are read from: a pose set, a rule and weights, and where each item stands. Nothing is said
+/// of what stands in the slices.
 #[derive(Clone, Copy)]
 pub struct Reading<'a> {
     pub set: PoseSet<'a>,

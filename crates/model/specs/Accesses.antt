@@ -1,4 +1,4 @@
--- A search as the list of its accesses, in the order in which it makes them (document 01, "The four searches").
+-- A search as the list of its accesses, in the order in which it makes them (docs/SPECIFICATION.md, "Accesses").
 --     Kind, Access               a sorted, direct or random access; its list and its position
 --     lookup                     an access that finds an item, then one random access for it in each other list
 --     row_ta, rows_ta              a row of TA and BPA; their first p rows

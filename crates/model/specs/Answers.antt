@@ -1,4 +1,4 @@
--- What a search and the list check give back (document 01, "What a search gives back"), and what each lent slice holds
+-- What a search and the list check give back (docs/SPECIFICATION.md, "What a search gives back"), and what each lent slice holds
 -- afterwards, refused or not.
 --     Place, Found           a place of the shortlist; what a search that is not refused gives back
 --     found                  it, of a search after the row at which it stops

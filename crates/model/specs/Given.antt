@@ -1,4 +1,4 @@
--- What a search is given (document 01, the first section).
+-- What a search is given (docs/SPECIFICATION.md, "Pose sets" and "Queries").
 --     Poses            a pose set as it is lent: m lists, n items, the item slice and the score slice
 --     item, score      what stands in a list at a position
 --     place            where an item stands in a list

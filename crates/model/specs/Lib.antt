@@ -1,4 +1,4 @@
--- Document 01 as definitions, in that page's order, and nothing else. Each computes, and holds for every input, damaged ones too.
+-- The specification (docs/SPECIFICATION.md) as definitions, and nothing else. Each computes, and holds for every input, damaged ones too.
 --     Words      the few words that the other files are written with
 --     Given      what a search is given: the pose set, the query, the overall score
 --     Accesses   sorted, direct and random accesses; the rows of TA, BPA and NRA and the rounds of BPA2; what is read off them

@@ -1,4 +1,4 @@
--- The previewer's program (document 01, "The previewer's program"): the bytes that it prints for the bytes that it is given.
+-- The previewer's program (docs/SPECIFICATION.md, "The previewer's program"): the bytes that it prints for the bytes that it is given.
 --     taken                      the bytes of its input that count
 --     decimal                    a number's text: "numbers are decimal without leading zeros"
 --     spaced, coloned            a number after a space, after a colon

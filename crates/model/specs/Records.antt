@@ -1,4 +1,4 @@
--- The two records (document 01, "Records") and the refusals 10 to 13 with their order.
+-- The two records (docs/SPECIFICATION.md, "Records") and the refusals 10 to 13 with their order.
 --     byte, quad                         a byte, a four-byte number, big-endian; 0 past the end
 --     query_head, read_query, QueryRead    a query record's tests; what its read answers
 --     lists_head, read_lists, ListsRead    a list record's tests; what its read answers

@@ -1,4 +1,4 @@
--- The refusal numbers 1 to 9 and their order (document 01, "Refusal numbers and their order").
+-- The refusal numbers 1 to 9 and their order (docs/SPECIFICATION.md, "Refusals").
 --     Verdict                    accepted, or refused with number, list and position
 --     ◌when◌, ◌then◌             a number "given exactly when"; one test after the other: "The first met is the answer"
 --     Lent                       everything that a search is lent, as it is at entry

@@ -1,4 +1,4 @@
--- The four searches (document 01, "The four searches"): how items are ranked, when a search stops, what each of the four is.
+-- The four searches (docs/SPECIFICATION.md, "Searches"): how items are ranked, when a search stops, what each of the four is.
 --     ahead, insert, ranked      the order of the shortlist
 --     Search                     what a search is: its accesses, an item's low and high, its own test of the k kept
 --     order, kept                the met items in their order; the first k of them

@@ -1,2 +1,2 @@
-// No code: the definitions of document 01 stand in specs/.
+// No code: the specification's definitions stand in specs/.
 #![tactic(auto)]

@@ -1,8 +1,8 @@
--- The records that the contracts of `columns` and `places` cite.
+-- The records that the contracts of `places` cite, and what a search into columns owes.
 --     row_of                  a place of the model as a row
 --     lent_rows               everything that a search is lent, the shortlist as rows
 --     SearchedRows           what a search into rows promises, at every input
---     Columned               what it promises before the rows are written, whatever rows are lent
+--     Columned               what columns of a search owe before they are written into rows, whatever rows are lent
 -- Assumes nothing.
 use Rattle.std.specs.Prelude.{◌≡◌, List, map, ℕ, ◌≤◌, length}
 use Rattle.model.specs.Words.{row}

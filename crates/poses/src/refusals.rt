@@ -23,9 +23,10 @@ pub enum Refusal {
     WrongRule,
     /// The weights are not two bytes for each list, or one is above 1,000.
     WrongWeights,
-    /// A slice of the lists is too short.
+    /// A slice of the lists has under `lists` x `poses` entries.
     ShortLists,
-    /// A slice to be written is too short.
+    /// A slice to be written is too short: under `count` places for the shortlist, or under `lists` x `poses` for
+    /// the others.
     ShortRoom,
     /// An item is no pose of the set.
     UnknownItem(Spot),
@@ -35,7 +36,7 @@ pub enum Refusal {
     ScoreRises(Spot),
     /// A record has too few bytes for its fixed head.
     ShortRecord,
-    /// A record's length is not that of the bytes that are there.
+    /// A record's length runs past its input, or, where it is to end it, is not that of the bytes after it.
     WrongLength,
     /// A record's version is not 1.
     WrongVersion,

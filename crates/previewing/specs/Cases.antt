@@ -14,7 +14,7 @@ use Rattle.std.proofs.Math.ListN.{drop}
 use Rattle.std.proofs.lemmas.List.{length-replicate}
 use Rattle.model.specs.Words.{row, over}
 use Rattle.model.specs.Refusals.{Verdict, accepted, refused, ◌when◌, ◌then◌, Lent, wrong_size, short, search_verdict}
-use Rattle.model.specs.Answers.{told, written}
+use Rattle.model.specs.Answers.{Told, told, written}
 use Rattle.model.specs.Records.{byte, quad, QueryRead as QueryValue, query_rule, query_k, query_head, query_answer, read_query, ListsRead as ListsValue, lists_m, lists_n, lists_head, lists_verdict, lists_answer, read_lists, entry_item, entry_score, items_after, scores_after, chosen, part_of}
 use Rattle.model.specs.Program.{refused_line, lists_of, lent_by, program_verdict, printing, printed}
 use Rattle.laws.specs.Verdicts.{by_verdict}
@@ -67,11 +67,18 @@ part_from b at = take (length b - at) (drop at b)
 part_from_is_drop : (b : List ℕ) (at : ℕ) → part_from b at ≡ drop at b
 part_from_is_drop b at = take_all (length b - at) (drop at b) (rw length-drop (omega arith))
 
--- the text where the query is refused
-pub query_refused : {b : List ℕ} {e : Refusal} → QueryIsRead b (Err e)
+-- the text where the query is refused, by the refusal's three numbers
+pub query_refused_line : {b : List ℕ} {e : Refusal} → QueryIsRead b (Err e)
     → printed b ≡ refused_line (told_of e).number (told_of e).list (told_of e).position
 unfolding printing program_verdict printed
-query_refused {b} {e} x = rw (refused_as e (query_head b) x.tells)
+query_refused_line {b} {e} x = rw (refused_as e (query_head b) x.tells)
+
+-- and list and position are 0
+pub query_refused : {b : List ℕ} {e : Refusal} → QueryIsRead b (Err e) → printed b ≡ refused_line (told_of e).number 0 0
+query_refused {b} {e} x =
+    let list : (told_of e).list ≡ 0 = ap (λ (t : Told). t.list) x.tells ∙ (flat_query b).0 in
+    let position : (told_of e).position ≡ 0 = ap (λ (t : Told). t.position) x.tells ∙ (flat_query b).1 in
+    query_refused_line x ∙ (λ j. refused_line (told_of e).number (list j) (position j))
 
 module _ {b : List ℕ} {q : QueryRead} (x : QueryIsRead b (Ok q)) where
   query_passes : query_head b ≡ accepted
@@ -147,15 +154,25 @@ module _ {b items scores i s : List ℕ} {t : ListsRead} (x : ListsAreRead b ite
 -- ---- both
 module _ {b : List ℕ} {q : QueryRead} (x : QueryIsRead b (Ok q)) {items scores i s : List ℕ}
     (many : length items ≡ 8192) (many' : length scores ≡ 8192) where
-  -- the text where the lists that follow the query are refused
-  pub lists_refused : {e : Refusal} → ListsAreRead (part_from b q.bytes) items scores (Err e) i s
+  -- a refusal of the lists that follow the query is that of their head
+  lists_told : {e : Refusal} → ListsAreRead (part_from b q.bytes) items scores (Err e) i s → told_of e ≡ told (lists_head (lists_of b))
+  lists_told y =
+      y.tells ∙ ap told (lists_roomy (part_from b q.bytes) items scores many many')
+      ∙ ap (λ (l : List ℕ). told (lists_head l)) (part_is_lists_of x)
+
+  -- the text where they are refused, by the refusal's three numbers
+  pub lists_refused_line : {e : Refusal} → ListsAreRead (part_from b q.bytes) items scores (Err e) i s
       → printed b ≡ refused_line (told_of e).number (told_of e).list (told_of e).position
   unfolding printing program_verdict printed
+  lists_refused_line {e} y = rw (query_passes x, refused_as e (lists_head (lists_of b)) (lists_told y))
+
+  -- and list and position are 0
+  pub lists_refused : {e : Refusal} → ListsAreRead (part_from b q.bytes) items scores (Err e) i s
+      → printed b ≡ refused_line (told_of e).number 0 0
   lists_refused {e} y =
-      let own = part_is_lists_of x in
-      let says : told_of e ≡ told (lists_head (lists_of b)) =
-      y.tells ∙ ap told (lists_roomy (part_from b q.bytes) items scores many many') ∙ ap (λ (l : List ℕ). told (lists_head l)) own in
-      rw (query_passes x, refused_as e (lists_head (lists_of b)) says)
+      let list : (told_of e).list ≡ 0 = ap (λ (t : Told). t.list) (lists_told y) ∙ (flat_lists (lists_of b)).0 in
+      let position : (told_of e).position ≡ 0 = ap (λ (t : Told). t.position) (lists_told y) ∙ (flat_lists (lists_of b)).1 in
+      lists_refused_line y ∙ (λ j. refused_line (told_of e).number (list j) (position j))
 
   module _ {t : ListsRead} (y : ListsAreRead (part_from b q.bytes) items scores (Ok t) i s) where
     -- the lists that were read are those that follow the query

@@ -5,6 +5,7 @@ ghost use Rattle.std.specs.Prelude.{◌*◌, ◌≤◌, length};
 ghost use Rattle.model.specs.Program.{refused_line};
 ghost use Rattle.poses.specs.Refusals.{told_of};
 ghost use Rattle.poses.specs.Sets.{lent_of, IsSameRoom};
+ghost use Rattle.answering.specs.Answered.{KeepsLengths};
 ghost use Rattle.fields.specs.Clauses.{Appended};
 ghost use Rattle.wording.specs.Clauses.{line_room};
 ghost use Rattle.lines.specs.Clauses.{Lines};
@@ -31,6 +32,7 @@ fn refused(refusal: Refusal, out: &mut [u8]) -> usize
 fn searched(set: PoseSet, query: Query, room: &mut Room, out: &mut [u8]) -> usize
     requires { 4 * line_room ≤ length out.old }
     ensures same { IsSameRoom room.old room.new }
+    ensures lengths { KeepsLengths room.old room.new }
     ensures text { Lines (lent_of set.entry query.entry room.old) out.old result out.new }
 {
     let mut text = Text { out, end: 0 };
@@ -50,6 +52,7 @@ fn after_query(
     requires { Reading bytes.now query items.old scores.old room.old.picks.now room.old.lows.now
         room.old.highs.now room.old.tally.now room.old.work.now out.old }
     ensures same { IsSameRoom room.old room.new }
+    ensures lengths { KeepsLengths room.old room.new }
     ensures text { Previewed bytes.now out.old result out.new }
 {
     let start = query.bytes;
@@ -86,6 +89,7 @@ pub fn preview(
     requires { Roomy items.old scores.old room.old.picks.now room.old.lows.now room.old.highs.now
         room.old.tally.now room.old.work.now out.old }
     ensures same { IsSameRoom room.old room.new }
+    ensures lengths { KeepsLengths room.old room.new }
     ensures text { Previewed bytes.now out.old result out.new }
 {
     let query = match records::read_query(bytes) {

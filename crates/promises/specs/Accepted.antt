@@ -69,7 +69,7 @@ accepted_exactly {l = l} x =
     let both = accepted_is_zero x in
     (λ none. accepts l (both.0 none), λ h. both.1 (right_accepted l h))
 
--- document 01's worked sets are accepted
+-- the worked sets are accepted
 pub record Worked : Type 0 where
   pub a : Accepts case_a
   pub b : Accepts case_b

@@ -1,5 +1,5 @@
-// The list check, the two reads and the chosen weights, told as C is told them: each answer's numbers in a lent array. Of a
-// refusal C is told its number, and of the list check its list and position; all else is 0.
+//! The list check, the two reads and the chosen weights, told as C is told them: each answer's numbers in a lent array. Of a
+//! refusal C is told its number, and of the list check its list and position; all else is 0.
 #![tactic(auto)]
 
 ghost use Rattle.std.specs.Prelude.{◌≡◌};
@@ -8,7 +8,7 @@ ghost use Rattle.reporting.specs.Told.{CheckTold, QueryTold, ListsTold, PartTold
 
 use poses::PoseSet;
 
-// The list check by itself.
+/// The list check by itself.
 #[tactic(auto, using(crate::proofs::Telling::check_accepted, crate::proofs::Telling::check_refused))]
 pub fn check_told(set: PoseSet, work: &mut [u16], told: &mut [u32; 3]) -> u32
     ensures { CheckTold (set_of set.entry) work.old result told.new work.new }
@@ -20,7 +20,7 @@ pub fn check_told(set: PoseSet, work: &mut [u16], told: &mut [u32; 3]) -> u32
     told[0]
 }
 
-// The read of a query record. The array's numbers are `usize`, as a search takes them.
+/// The read of a query record. The array's numbers are `usize`, as a search takes them.
 #[tactic(auto, using(crate::proofs::Telling::query_told, crate::proofs::Telling::query_refused))]
 pub fn query_told(bytes: &[u8], told: &mut [usize; 5]) -> u32
     ensures { QueryTold bytes.now result told.new }
@@ -37,7 +37,7 @@ pub fn query_told(bytes: &[u8], told: &mut [usize; 5]) -> u32
     }
 }
 
-// The read of a list record into two slices.
+/// The read of a list record into two slices.
 #[tactic(auto, using(crate::proofs::Telling::lists_told, crate::proofs::Telling::lists_refused))]
 pub fn lists_told(bytes: &[u8], items: &mut [u16], scores: &mut [u16], told: &mut [usize; 3]) -> u32
     ensures { ListsTold bytes.now items.old scores.old result
@@ -55,9 +55,9 @@ pub fn lists_told(bytes: &[u8], items: &mut [u16], scores: &mut [u16], told: &mu
     }
 }
 
-// The weights that a query is to be searched with, as a part of the one record or the other: the record
-// (0 the query, 1 the lists), where the part starts in it and how many bytes it is. Weights that are there are at least one pair, so an
-// empty part is that of refused records.
+/// The weights that a query is to be searched with, as a part of the one record or the other: the record
+/// (0 the query, 1 the lists), where the part starts in it and how many bytes it is. Weights that are there are at least one pair, so an
+/// empty part is that of refused records.
 pub fn weights_told<'a>(query: &'a [u8], lists: &'a [u8], told: &mut [usize; 3]) -> usize
     ensures { PartTold query.now lists.now result told.new }
 {

@@ -74,7 +74,7 @@ module _ (a : Accepted) where
   module _ {q : Query} {tr : List Access} {picks₀ lows₀ tally₀ marks : List ℕ} {l : Shortlist}
       (at : State s q tr picks₀ lows₀ tally₀ l marks) (long : s.m * s.n ≤ length tally₀) (d : ℕ) (hd : d < s.n)
       (few : (i : ℕ) → i < s.m → times tr i (place s i d) ≤ 8) where
-    visitable_of : Visitable d s.m s.n marks a.reading.places.now
+    pub visitable_of : Visitable d s.m s.n marks a.reading.places.now
     visitable_of =
         let v = a.readable.lists_valid in
         let w = a.readable.work_placed in

@@ -1,9 +1,10 @@
-// A search's answer told as C is told it: its numbers in a lent array.
+//! A search's answer told as C is told it: its numbers in a lent array.
 #![tactic(auto)]
 
 ghost use Rattle.poses.specs.Methods.{method_number};
 ghost use Rattle.poses.specs.Sets.{lent_of, IsSameRoom};
 ghost use Rattle.running.specs.Clauses.{search_at};
+ghost use Rattle.answering.specs.Answered.{KeepsLengths};
 ghost use Rattle.telling.specs.Told.{AnswerTold, SearchTold};
 
 use answers::Answer;
@@ -20,7 +21,7 @@ fn tell(a: Answer, told: &mut [u32; 7]) -> u32
     a.number
 }
 
-// The search of a name, and its answer told.
+/// The search of a name, and its answer told.
 pub fn searched(
     method: Method,
     set: PoseSet,
@@ -29,6 +30,7 @@ pub fn searched(
     told: &mut [u32; 7],
 ) -> u32
     ensures same { IsSameRoom room.old room.new }
+    ensures lengths { KeepsLengths room.old room.new }
     ensures answer { SearchTold (search_at (method_number method)) (lent_of set.entry query.entry room.old) result told.new
         room.new.picks.now room.new.lows.now room.new.highs.now room.new.tally.now room.new.work.now }
 {

@@ -1,4 +1,4 @@
-// Tests of a search that ask about one thing each: k, the weights, the room that is lent. And the weights as numbers.
+//! Tests of a search that ask about one thing each: k, the weights, the room that is lent. And the weights as numbers.
 #![tactic(auto)]
 
 ghost use Rattle.std.specs.Prelude.{◌≡◌, ◌*◌, ◌≤◌, length};
@@ -16,7 +16,7 @@ pub struct Lengths {
     pub tally: usize,
 }
 
-// Test 2: k is 0 or above n.
+/// Test 2: k is 0 or above n.
 #[tactic(auto, unfolding(model::specs::Refusals::wrong_k))]
 pub fn wrong_k(k: usize, n: usize) -> bool
     ensures { result ≡ wrong_k k n }
@@ -24,7 +24,7 @@ pub fn wrong_k(k: usize, n: usize) -> bool
     k == 0 || n < k
 }
 
-// Test 4: the weights are not 2m bytes, or one is above 1,000.
+/// Test 4: the weights are not 2m bytes, or one is above 1,000.
 #[tactic(auto, using(crate::proofs::Heavy::heavy_found, laws::specs::Tests::some_none), unfolding(model::specs::Refusals::wrong_weights, model::specs::Refusals::weight_of))]
 pub fn wrong_weights(m: usize, weights: &[u8]) -> bool
     requires { m ≤ 8 }
@@ -41,7 +41,7 @@ pub fn wrong_weights(m: usize, weights: &[u8]) -> bool
     false
 }
 
-// The weights as numbers, list by list; 0 past the last.
+/// The weights as numbers, list by list; 0 past the last.
 #[tactic(auto, using(crate::specs::Weights::weight_past, laws::specs::Lists::zeros_at), unfolding(model::specs::Refusals::weight_of))]
 pub fn decode(m: usize, weights: &[u8]) -> [u32; 8]
     requires { (m ≤ 8) × (length weights.now ≡ 2 * m) }
@@ -54,7 +54,7 @@ pub fn decode(m: usize, weights: &[u8]) -> [u32; 8]
     numbers
 }
 
-// Test 6: a slice that is lent has under `count` places for the shortlist, or under `size` for the tally or the work slice.
+/// Test 6: a slice that is lent has under `count` places for the shortlist, or under `size` for the tally or the work slice.
 pub fn no_room(count: usize, size: usize, lengths: Lengths, work: usize) -> bool
     ensures { result ≡ no_room_of count size lengths.picks lengths.lows lengths.highs lengths.tally work }
 {

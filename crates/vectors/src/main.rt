@@ -29,7 +29,7 @@ fn case(number: u32) -> Option<()> {
     }
 }
 
-// One more than the last case that is run: nothing else says that the input ends.
+// One more than the last case that is run, so that the loop ends whatever is read; mostly the input ends it.
 const MOST: u32 = 1000000;
 
 fn main() {

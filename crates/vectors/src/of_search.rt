@@ -14,7 +14,7 @@ struct Head {
     count: usize,
 }
 
-// Their lengths.
+// The lengths of the slices to be written.
 #[derive(Clone, Copy)]
 struct Lengths {
     picks: usize,

@@ -1,6 +1,6 @@
 -- `lines::search_lines` meets its contract: one line more of a search that is accepted, or the line of the refusal alone.
 -- Assumes nothing.
-use Rattle.std.proofs.Common.{refl, sym, ◌∙◌, arith, rules}
+use Rattle.std.proofs.Common.{refl, ◌∙◌, arith, rules}
 use Rattle.poses.specs.Refusals.{number_some}
 use Rattle.lines.specs.Alike.{alike_itself, alike_kept}
 use Rattle.lines.proofs.Turns.{so_far_none, so_far_next, so_far_refused, so_far_all, line_of_number}

@@ -3,7 +3,7 @@
 -- Assumes nothing.
 use Rattle.std.proofs.Common.{refl, sym, arith, length-take-le}
 use Rattle.records.specs.Settled.{query_within}
-use Rattle.previewing.specs.Cases.{lists_refused, size_fit, all_searched}
+use Rattle.previewing.specs.Cases.{lists_refused_line, size_fit, all_searched}
 use Rattle.previewing.proofs.Printing.{previewed}
 use Rattle.previewing.proofs.after_query.Goals as goal
 
@@ -49,5 +49,5 @@ returns-in-Ok-clause-text c =
 
 pub returns-in-Err-clause-text : goal.returns-in-Err-clause-text
 returns-in-Err-clause-text c =
-    let text = lists_refused c.requires.is_read c.requires.room.items_are c.requires.room.scores_are c.in-Err.ensures in
+    let text = lists_refused_line c.requires.is_read c.requires.room.items_are c.requires.room.scores_are c.in-Err.ensures in
     previewed (sym text) c.refused.ensures

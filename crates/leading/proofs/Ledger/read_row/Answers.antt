@@ -9,7 +9,7 @@ use Rattle.leading.proofs.Ledger.read_row.Goals as goal
 pub loop-i-init : goal.loop-i-init
 loop-i-init c =
     let leads = c.requires.1 in (
-      record { marks_same = refl; tops_same = refl; met_same = refl },
+      record { marks_same = refl; tops_same = refl; met_same = refl; marks_long = refl; tops_long = refl; met_long = refl },
       record {
         begun = begun_start c.args.rows.reading.set.items.now leads.marked;
         led = leads.led;
