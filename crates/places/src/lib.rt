@@ -1,4 +1,5 @@
-//! The searches again, with the shortlist as rows: item, low and high of a place together.
+//! The searches again, with the shortlist as rows: item, low and high of a place together. The types that a caller names
+//! beside are handed on.
 #![tactic(auto)]
 
 ghost use Rattle.std.specs.Prelude.{◌≡◌, length, take};
@@ -11,12 +12,12 @@ ghost use Rattle.running.specs.Clauses.{search_at};
 ghost use Rattle.answers.specs.Clauses.{answer_of};
 ghost use Rattle.places.specs.Clauses.{lent_rows, SearchedRows};
 
-use meeting::Found;
+pub use meeting::Found;
 use placing::Columns;
 pub use placing::Place;
-use poses::methods::Method;
-use poses::refusals::Refusal;
-use poses::{PoseSet, Query};
+pub use poses::methods::Method;
+pub use poses::refusals::{Refusal, Spot};
+pub use poses::{PoseSet, Query};
 
 // So many places are lent to a search: as many as there are rows, and 1,024 at most.
 fn lesser(rows: usize) -> usize

@@ -15,7 +15,7 @@ pub struct Place {
 }
 
 /// A shortlist by columns. 1,024 places hold the longest.
-#[derive(Drop)]
+#[derive(Clone, Copy)]
 pub struct Columns {
     pub picks: [u16; 1024],
     pub lows: [u32; 1024],

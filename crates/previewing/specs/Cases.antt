@@ -28,36 +28,18 @@ use Rattle.records.specs.declared.ListsRead.{ListsRead}
 use Rattle.records.specs.Clauses.{value_of_query, QueryIsRead, value_of_lists, ListsAreRead}
 use Rattle.records.specs.Held.{lists_held}
 use Rattle.heads.specs.Heads.{query_from_11, query_from_12, query_from_13, query_says, lists_from_11, lists_from_12, lists_from_1, lists_from_13, lists_says}
+use Rattle.records.specs.Placeless.{placeless_query, placeless_lists}
 use Rattle.records.specs.Settled.{query_zero, lists_zero}
 use Rattle.admission.specs.Clauses.{lent_with}
 use Rattle.admission.specs.Shapes.{Flat}
 use Rattle.lines.specs.Alike.{Alike, alike_printing}
 
 -- ---- a refusal of a record carries 0, 0
-flat_test : (x : ℕ) (b : Bool) (later : Verdict) → Flat later → Flat (x when b then later)
-flat_test x true later h = (refl, refl)
-flat_test x false later h = h
-
-flat_last : (x : ℕ) (b : Bool) → Flat (x when b)
-flat_last x true = (refl, refl)
-flat_last x false = (refl, refl)
-
 pub flat_query : (b : List ℕ) → Flat (query_head b)
-unfolding query_head
-flat_query b =
-    flat_test 10 (ltb (length b) 9) (query_from_12 b)
-    (flat_test 12 (not (eqb (byte b 4) 1)) (query_from_13 b)
-    (flat_test 13 (not (eqb (quad b 0) (query_says b))) (query_from_11 b)
-    (flat_last 11 (ltb (length b - 4) (quad b 0)))))
+flat_query b = placeless_query b
 
 pub flat_lists : (b : List ℕ) → Flat (lists_head b)
-unfolding lists_head
-flat_lists b =
-    flat_test 10 (ltb (length b) 8) (lists_from_11 b)
-    (flat_test 11 (not (eqb (quad b 0) (length b - 4))) (lists_from_12 b)
-    (flat_test 12 (not (eqb (byte b 4) 1)) (lists_from_1 b)
-    (flat_test 1 (wrong_size (lists_m b) (lists_n b)) (lists_from_13 b)
-    (flat_last 13 (not (eqb (quad b 0) (lists_says b)))))))
+flat_lists b = placeless_lists b
 
 -- ---- the query
 -- a part of a slice, from a place to its end, as the code's `&bytes[at..]` is told
