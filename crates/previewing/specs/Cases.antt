@@ -1,5 +1,7 @@
 -- The text by cases, as the two reads tell them: a refused query, refused lists, and what the searches are lent.
 --     flat_query, flat_lists     a refusal of either record carries 0, 0
+--     flat_line                  the line of a refusal that does
+--     query_number, lists_number     the number of a read is that of its record's head
 --     lists_roomy                in slices of 8,192 places a read of lists is never refused by 6
 --     query_refused              the text where the query is refused
 --     part_from, part_is_lists_of         a part of a slice to its end; the list record is what follows the query
@@ -20,7 +22,7 @@ use Rattle.model.specs.Program.{refused_line, lists_of, lent_by, program_verdict
 use Rattle.laws.specs.Verdicts.{by_verdict}
 use Rattle.laws.specs.Lists.{row_length}
 use Rattle.laws.specs.Accepted.{size_fits}
-use Rattle.std.specs.Prelude.{Ok, Err}
+use Rattle.std.specs.Prelude.{Result, Ok, Err}
 use Rattle.poses.specs.declared.refusals.Refusal.{Refusal}
 use Rattle.poses.specs.Refusals.{told_of, refused_as}
 use Rattle.records.specs.declared.QueryRead.{QueryRead}
@@ -40,6 +42,20 @@ flat_query b = placeless_query b
 
 pub flat_lists : (b : List ℕ) → Flat (lists_head b)
 flat_lists b = placeless_lists b
+
+-- a flat refusal's line
+flat_line : (v later : Verdict) (l : Lent) → Flat v → ((told v).number ≡ 0 → ⊥)
+    → printing (v then later) l ≡ refused_line (told v).number 0 0
+unfolding printing
+flat_line accepted later l h some = absurd (some refl)
+flat_line (refused x i p) later l h some = rw (h.0, h.1)
+
+-- the number of a read is that of its record's head
+query_number : {b : List ℕ} {r : Result QueryRead Refusal} → QueryIsRead b r → (value_of_query r).number ≡ (told (query_head b)).number
+unfolding read_query query_answer
+query_number {b} x =
+    let same = ap (λ (v : QueryValue). v.number) x.answers in
+    by_verdict (query_head b) (λ e. same ∙ rw e) (λ y i p e. same ∙ rw e)
 
 -- ---- the query
 -- a part of a slice, from a place to its end, as the code's `&bytes[at..]` is told
@@ -94,6 +110,15 @@ lists_roomy b items scores many many' =
     let fits : size ≤ 8192 = size_fits (lists_held b e).sizes in
     rw (e, le-ltb (length items) size (omega arith), le-ltb (length scores) size (omega arith)))
     (λ y i p e. rw e)
+
+-- the number of a read of lists into slices of 8,192 places is that of their head
+lists_number : {b items scores i s : List ℕ} {r : Result ListsRead Refusal} → ListsAreRead b items scores r i s
+    → length items ≡ 8192 → length scores ≡ 8192 → (value_of_lists r).number ≡ (told (lists_head b)).number
+unfolding read_lists lists_answer
+lists_number {b} {items} {scores} x many many' =
+    let same = ap (λ (v : ListsValue). v.number)
+    (x.answers ∙ ap (λ (v : Verdict). lists_answer v b) (lists_roomy b items scores many many')) in
+    by_verdict (lists_head b) (λ e. same ∙ rw e) (λ y i p e. same ∙ rw e)
 
 -- what was written over the start of a slice is its first part
 row_taken : (f : ℕ → ℕ) (n : ℕ) (s : List ℕ) → take n (over (row f n) s) ≡ row f n
