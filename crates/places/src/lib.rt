@@ -19,7 +19,7 @@ pub use poses::refusals::{Refusal, Spot};
 pub use poses::{PoseSet, Query};
 
 // A search into the first places of longer columns, as many as there are rows: its own test tells whether they are
-// enough. The columns come one by one, since no part of a lent struct's field can be lent on.
+// enough. The columns come one by one, since a part of each is lent on.
 fn search_within(
     method: Method,
     set: PoseSet,
