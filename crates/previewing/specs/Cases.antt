@@ -30,13 +30,19 @@ use Rattle.records.specs.declared.ListsRead.{ListsRead}
 use Rattle.records.specs.Clauses.{value_of_query, QueryIsRead, value_of_lists, ListsAreRead}
 use Rattle.records.specs.Held.{lists_held}
 use Rattle.heads.specs.Heads.{query_from_11, query_from_12, query_from_13, query_says, lists_from_11, lists_from_12, lists_from_1, lists_from_13, lists_says}
-use Rattle.records.specs.Placeless.{placeless_query, placeless_lists}
+use Rattle.records.specs.Placeless.{placeless_test, placeless_last, placeless_query, placeless_lists}
 use Rattle.records.specs.Settled.{query_zero, lists_zero}
 use Rattle.admission.specs.Clauses.{lent_with}
 use Rattle.admission.specs.Shapes.{Flat}
 use Rattle.lines.specs.Alike.{Alike, alike_printing}
 
 -- ---- a refusal of a record carries 0, 0
+flat_test : (x : ℕ) (b : Bool) (later : Verdict) → Flat later → Flat (x when b then later)
+flat_test x b later h = placeless_test x b later h
+
+flat_last : (x : ℕ) (b : Bool) → Flat (x when b)
+flat_last x b = placeless_last x b
+
 pub flat_query : (b : List ℕ) → Flat (query_head b)
 flat_query b = placeless_query b
 

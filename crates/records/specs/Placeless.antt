@@ -1,5 +1,6 @@
 -- A record that is refused is met at no position of the lists: its number tells the refusal.
 --     Placeless                          a verdict that carries 0, 0
+--     placeless_test, placeless_last     a test before others, and the last one
 --     placeless_query, placeless_lists   those of the two heads
 --     placeless_verdict                  that of the read of lists
 -- Assumes nothing.
@@ -13,11 +14,11 @@ use Rattle.heads.specs.Heads.{query_says, query_from_12, query_from_13, query_fr
 abbrev pub Placeless : Verdict → Type 0
 Placeless v = ((told v).list ≡ 0) × ((told v).position ≡ 0)
 
-placeless_test : (x : ℕ) (b : Bool) (later : Verdict) → Placeless later → Placeless (x when b then later)
+pub placeless_test : (x : ℕ) (b : Bool) (later : Verdict) → Placeless later → Placeless (x when b then later)
 placeless_test x true later h = (refl, refl)
 placeless_test x false later h = h
 
-placeless_last : (x : ℕ) (b : Bool) → Placeless (x when b)
+pub placeless_last : (x : ℕ) (b : Bool) → Placeless (x when b)
 placeless_last x true = (refl, refl)
 placeless_last x false = (refl, refl)
 
