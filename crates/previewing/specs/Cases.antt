@@ -9,15 +9,15 @@
 --     row_taken                  what was written over the start of a slice is its first part
 --     all_searched               the text where both are read: that of the searches over what is lent
 -- Assumes nothing.
-use Rattle.std.specs.Prelude.{◌≡◌, refl, Bool, true, false, not, List, ℕ, ◌-◌, ◌*◌, ◌≤◌, eqb, ltb, length, take}
+use Rattle.std.specs.Prelude.{◌≡◌, refl, Bool, List, ℕ, ◌-◌, ◌*◌, ◌≤◌, length, take}
 use Rattle.std.proofs.Math.Path.{sym, ap}
 use Rattle.std.proofs.Common.{◌∙◌, arith, length-drop, take_all, take_at, le-ltb}
 use Rattle.std.proofs.Math.ListN.{drop}
 use Rattle.std.proofs.lemmas.List.{length-replicate}
 use Rattle.model.specs.Words.{row, over}
-use Rattle.model.specs.Refusals.{Verdict, accepted, refused, ◌when◌, ◌then◌, Lent, wrong_size, short, search_verdict}
+use Rattle.model.specs.Refusals.{Verdict, accepted, refused, ◌when◌, ◌then◌, Lent, short, search_verdict}
 use Rattle.model.specs.Answers.{Told, told, written}
-use Rattle.model.specs.Records.{byte, quad, QueryRead as QueryValue, query_rule, query_k, query_head, query_answer, read_query, ListsRead as ListsValue, lists_m, lists_n, lists_head, lists_verdict, lists_answer, read_lists, entry_item, entry_score, items_after, scores_after, chosen, part_of}
+use Rattle.model.specs.Records.{QueryRead as QueryValue, query_rule, query_k, query_head, query_answer, read_query, ListsRead as ListsValue, lists_m, lists_n, lists_head, lists_verdict, lists_answer, read_lists, entry_item, entry_score, items_after, scores_after, chosen, part_of}
 use Rattle.model.specs.Program.{refused_line, lists_of, lent_by, program_verdict, printing, printed}
 use Rattle.laws.specs.Verdicts.{by_verdict}
 use Rattle.laws.specs.Lists.{row_length}
@@ -29,7 +29,6 @@ use Rattle.records.specs.declared.QueryRead.{QueryRead}
 use Rattle.records.specs.declared.ListsRead.{ListsRead}
 use Rattle.records.specs.Clauses.{value_of_query, QueryIsRead, value_of_lists, ListsAreRead}
 use Rattle.records.specs.Held.{lists_held}
-use Rattle.heads.specs.Heads.{query_from_11, query_from_12, query_from_13, query_says, lists_from_11, lists_from_12, lists_from_1, lists_from_13, lists_says}
 use Rattle.records.specs.Placeless.{placeless_test, placeless_last, placeless_query, placeless_lists}
 use Rattle.records.specs.Settled.{query_zero, lists_zero}
 use Rattle.admission.specs.Clauses.{lent_with}
