@@ -2,7 +2,7 @@
 #![tactic(auto)]
 
 ghost use Rattle.std.specs.Prelude.{◌≡◌};
-ghost use Rattle.answers.specs.Clauses.{all_told, answer_of};
+ghost use Rattle.answers.specs.Clauses.{all_told, RefusedBy, Tells, answer_of};
 
 use meeting::{Direct, Found, Random, Sorted};
 use poses::refusals::Refusal;
@@ -29,29 +29,43 @@ impl Answer {
     }
 }
 
+/// The answer of a refusal by any number, at any list and position: all numbers but these three are 0.
+pub fn refused(number: u32, list: u32, position: u32) -> Answer
+    ensures { RefusedBy number list position result }
+{
+    Answer {
+        number,
+        list,
+        position,
+        rows: 0,
+        sorted: Sorted(0),
+        direct: Direct(0),
+        random: Random(0),
+    }
+}
+
+/// The answer of a search that is not refused: what it has done.
+pub fn found(done: Found) -> Answer
+    ensures { Tells done result }
+{
+    Answer {
+        number: 0,
+        list: 0,
+        position: 0,
+        rows: done.rows,
+        sorted: done.sorted,
+        direct: done.direct,
+        random: done.random,
+    }
+}
+
 impl From<Result<Found, Refusal>> for Answer {
     ghost from_gives = { λ found answer. answer ≡ answer_of found };
 
-    fn from(found: Result<Found, Refusal>) -> Answer {
-        match found {
-            Ok(found) => Answer {
-                number: 0,
-                list: 0,
-                position: 0,
-                rows: found.rows,
-                sorted: found.sorted,
-                direct: found.direct,
-                random: found.random,
-            },
-            Err(refusal) => Answer {
-                number: refusal.number(),
-                list: refusal.list(),
-                position: refusal.position(),
-                rows: 0,
-                sorted: Sorted(0),
-                direct: Direct(0),
-                random: Random(0),
-            },
+    fn from(outcome: Result<Found, Refusal>) -> Answer {
+        match outcome {
+            Ok(done) => found(done),
+            Err(refusal) => refused(refusal.number(), refusal.list(), refusal.position()),
         }
     }
 }

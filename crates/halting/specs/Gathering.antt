@@ -6,6 +6,7 @@
 --     listed_most, listed_short      at most n; fewer where an item has none
 --     listed_reach_is            how many entries have a mark above a bar: how many items
 --     listed_front               the entries alone, in a slice of their own
+--     gathered_named             there is room for the first entries, and each is an item
 --     gathered_start             before any row there is none
 --     gathered_again, gathered_new       an item that is among them has a new mark; one that is not comes behind them
 -- Assumes nothing.
@@ -16,13 +17,13 @@ use Rattle.std.proofs.Math.Bool.{Bool, false, or-false, or-true, and-true, and-f
 use Prim.Native.Nat.{ℕ, zero, suc, ◌+◌, ◌≤◌, ◌<◌}
 use Rattle.std.proofs.Math.Dec.{eqb, ltb}
 use Rattle.std.proofs.Math.ListN.{get_or, take}
-use Rattle.std.proofs.lemmas.List.{length-replicate, get_or-take}
+use Rattle.std.proofs.lemmas.List.{length-replicate, length-take, get_or-take}
 use borrow.Author.Tests.{eqb-true, eqb-false, lt-ltb, le-ltb, ltb-true}
 use Rattle.model.specs.Words.{some_below}
 use Rattle.laws.specs.Tests.{by_cases, some_same}
 use Rattle.laws.specs.Lists.{zeros_at}
 use Rattle.laws.specs.Passing.{passing, passing_most, passing_same, passing_all, passing_none, passing_more}
-use Rattle.halting.specs.Clauses.{in_first, Listed, Gathered, listed_reach, reach_of}
+use Rattle.halting.specs.Clauses.{Named, in_first, Listed, Gathered, listed_reach, reach_of}
 
 pub first_none : (met : List ℕ) (d : ℕ) → in_first met 0 d ≡ false
 unfolding in_first some_below
@@ -122,6 +123,15 @@ listed_front {n} {marks} {met} {count} g =
       once_each = λ j h.
           rw (get_or-take count met j 0 h) (first_taken met j count (get_or met j 0) (omega arith) ∙ g.once_each j h);
     }
+
+pub gathered_named : {n : ℕ} {marks met : List ℕ} {count : ℕ} → Gathered n marks met count
+    → (c : ℕ) → c ≤ count → (c ≤ length met) × Named n (take c met)
+gathered_named {n} {marks} {met} {count} g c h =
+    let room : c ≤ length met = omega (arith, listed_most g.listed, g.met_long) in
+    let cut : length (take c met) ≤ c = omega (arith, length-take c met) in (
+      room,
+      record { items_small = λ j l. rw (get_or-take c met j 0 (omega arith)) (g.listed.items_small j (omega arith)) },
+    )
 
 pub gathered_start : (n : ℕ) → n ≤ 1024 → Gathered n (replicate 1024 0) (replicate 1024 0) 0
 gathered_start n most =

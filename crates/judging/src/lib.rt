@@ -94,6 +94,30 @@ impl Judged for Bpa2 {
     }
 }
 
+/// The positions of the threshold of a search by its number: 0 TA, 2 BPA2, any other BPA.
+pub fn positions_by(which: u8, p: usize, set: PoseSet, best: &mut [usize; 8], tally: &[u8])
+    requires { Advancing set.lists set.poses best.old tally.now }
+    ensures { Positioned which p set.entry.lists set.entry.poses tally.now best.new }
+{
+    match which {
+        0 => Ta::positions(p, set, best, tally),
+        2 => Bpa2::positions(p, set, best, tally),
+        _ => Bpa::positions(p, set, best, tally),
+    }
+}
+
+/// The accesses of a search by its number: 0 TA, 2 BPA2, any other BPA.
+pub fn counts_by(which: u8, p: usize, lists: usize, found: u32) -> Found
+    requires { Counting p lists found }
+    ensures { Counted which p lists found result }
+{
+    match which {
+        0 => Ta::counts(p, lists, found),
+        2 => Bpa2::counts(p, lists, found),
+        _ => Bpa::counts(p, lists, found),
+    }
+}
+
 /// The search ends after p rows or rounds: at the last row, or when at least `count` items are met and the score
 /// in the last of so many places is at or above the threshold.
 pub fn ends(

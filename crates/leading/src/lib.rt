@@ -71,6 +71,6 @@ impl Ledger<'_> {
     pub fn marked(&self) -> &[u32]
         ensures { result.now ≡ self.now.marks.now }
     {
-        self.marks
+        &*self.marks
     }
 }

@@ -1,5 +1,5 @@
 //! The list check and the place table: each item's position in each list is noted in the work slice, or the first refusal in reading
-//! order is found.
+//! order is found. The types that a caller names beside are handed on.
 #![tactic(auto)]
 
 ghost use Rattle.std.specs.Prelude.{◌≡◌};
@@ -9,8 +9,8 @@ ghost use Rattle.lists.specs.Clauses.{Lying, ListsNoted, ListsChecked};
 
 use entries::walk_list;
 use passing::note_whole;
-use poses::PoseSet;
-use poses::refusals::Refusal;
+pub use poses::PoseSet;
+pub use poses::refusals::{Refusal, Spot};
 
 /// Test 1: m is not 1 to 8 or n not 1 to 1,024.
 #[tactic(auto, unfolding(model::specs::Refusals::wrong_size))]

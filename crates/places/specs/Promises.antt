@@ -1,5 +1,6 @@
 -- What a search into rows promises to whoever calls it.
---     SameRows, rows_settle      any two results that meet its contract coincide: the answer, the rows, the tally and the work slice
+--     SameRows, rows_settle      any two answers that meet its contract coincide, the rows, the tally and the work slice included
+--     rows_results_settle        and so do any two results, whose answers they are
 --     rows_refused               a refused search leaves the rows as lent
 --     SameContent, same_content  the rows hold what the three slices of the first entry hold, and all else is the same
 -- Assumes nothing.
@@ -13,7 +14,11 @@ use Rattle.model.specs.Searches.{Search}
 use Rattle.model.specs.Refusals.{Verdict, accepted, refused, Lent, poses_of, search_verdict}
 use Rattle.model.specs.Answers as model
 use Rattle.model.specs.Answers.{Found, found, search_of, answer, answering, written, slices, slices_with}
+use Rattle.std.specs.Prelude.{Result}
+use Rattle.poses.specs.declared.refusals.Refusal.{Refusal}
+use Rattle.meeting.specs.declared.Found.{Found as FoundValue}
 use Rattle.answers.specs.declared.Answer.{Answer}
+use Rattle.answers.specs.Clauses.{answer_of, answer_once}
 use Rattle.answering.specs.Answered.{Searched}
 use Rattle.answering.specs.Promises.{answer_one_to_one}
 use Rattle.placing.specs.declared.Place.{Place}
@@ -40,6 +45,12 @@ rows_settle {a = a} {b = b} x y =
       tally_same = x.tally_is ∙ sym y.tally_is;
       work_same = x.work_is ∙ sym y.work_is;
     }
+
+pub rows_results_settle : {r : Poses → Query → Search} {l : Lent} {lent : List Place} {a b : Result FoundValue Refusal}
+    {rows : List Place} {tally work : List ℕ} {rows' : List Place} {tally' work' : List ℕ}
+    → SearchedRows r l (answer_of a) lent rows tally work → SearchedRows r l (answer_of b) lent rows' tally' work'
+    → (a ≡ b) × SameRows (answer_of a) (answer_of b) rows tally work rows' tally' work'
+rows_results_settle {a = a} {b = b} x y = let same = rows_settle x y in (answer_once a b same.answers, same)
 
 -- a refused search leaves the rows as lent
 pub rows_refused : {r : Poses → Query → Search} {l : Lent} {lent : List Place} {a : Answer} {rows : List Place} {tally work : List ℕ}

@@ -1,32 +1,25 @@
-//! The searches again, with the shortlist as rows: item, low and high of a place together.
+//! The searches again, with the shortlist as rows: item, low and high of a place together. The types that a caller names
+//! beside are handed on.
 #![tactic(auto)]
 
 ghost use Rattle.std.specs.Prelude.{◌≡◌, length, take};
 ghost use Rattle.model.specs.Searches.{TA, BPA, BPA2, NRA};
 ghost use Rattle.admission.specs.Clauses.{lent_with};
 ghost use Rattle.answering.specs.Answered.{Searched};
-ghost use Rattle.placing.specs.Counts.{lesser_of};
+ghost use Rattle.placing.specs.Counts.{enough_of, lesser_of};
 ghost use Rattle.poses.specs.Methods.{method_number};
 ghost use Rattle.running.specs.Clauses.{search_at};
 ghost use Rattle.answers.specs.Clauses.{answer_of};
-ghost use Rattle.places.specs.Clauses.{lent_rows, SearchedRows};
+ghost use Rattle.places.specs.Clauses.{lent_rows, SearchedRows, Columned};
 
-use meeting::Found;
-use placing::Columns;
-pub use placing::Place;
-use poses::methods::Method;
-use poses::refusals::Refusal;
-use poses::{PoseSet, Query};
-
-// So many places are lent to a search: as many as there are rows, and 1,024 at most.
-fn lesser(rows: usize) -> usize
-    ensures { result ≡ lesser_of rows }
-{
-    rows.min(1024)
-}
+pub use meeting::Found;
+pub use placing::{Columns, Place};
+pub use poses::methods::Method;
+pub use poses::refusals::{Refusal, Spot};
+pub use poses::{PoseSet, Query};
 
 // A search into the first places of longer columns, as many as there are rows: its own test tells whether they are
-// enough. The columns come one by one, since no part of a lent struct's field can be lent on.
+// enough. The columns come one by one, since a part of each is lent on.
 fn search_within(
     method: Method,
     set: PoseSet,
@@ -46,7 +39,7 @@ fn search_within(
         (take (lesser_of rows) picks.new) (take (lesser_of rows) lows.new)
         (take (lesser_of rows) highs.new) tally.new work.new }
 {
-    let part = lesser(rows);
+    let part = placing::lesser(rows);
     answering::searched(
         method,
         set,
@@ -57,6 +50,26 @@ fn search_within(
         tally,
         work,
     )
+}
+
+/// A search for so many lent rows, up to where they are written: its shortlist stays in columns, of which the first
+/// places are to be written, `placing::enough` of them.
+pub fn search_columns(
+    method: Method,
+    set: PoseSet,
+    query: Query,
+    rows: usize,
+    columns: &mut Columns,
+    tally: &mut [u8],
+    work: &mut [u16],
+) -> Result<Found, Refusal>
+    ensures { Columned (method_number method) set.entry.lists set.entry.poses query.entry.rule query.entry.count rows
+        query.entry.weights.now set.entry.items.now set.entry.scores.now tally.old work.old (answer_of result)
+        (enough_of (answer_of result).number query.entry.count) columns.new.picks columns.new.lows columns.new.highs
+        tally.new work.new }
+{
+    let Columns { picks, lows, highs } = columns;
+    search_within(method, set, query, rows, picks, lows, highs, tally, work)
 }
 
 /// The search of a name, its shortlist written into lent rows. Refused, the rows stay as lent, and beyond the
@@ -78,17 +91,7 @@ pub fn search_rows(
         lows: [0; 1024],
         highs: [0; 1024],
     };
-    let found = search_within(
-        method,
-        set,
-        query,
-        rows.len(),
-        &mut columns.picks,
-        &mut columns.lows,
-        &mut columns.highs,
-        tally,
-        work,
-    )?;
+    let found = search_columns(method, set, query, rows.len(), &mut columns, tally, work)?;
     columns.fill(rows, query.count);
     Ok(found)
 }

@@ -1,9 +1,10 @@
-// Rows of item, low and high, filled from a shortlist's columns.
+// Rows of item, low and high, filled from a shortlist's columns, and how many there are to fill.
 #![tactic(auto)]
 
 ghost use Rattle.std.specs.Prelude.{◌≡◌, ◌≤◌, ◌<◌, length};
 ghost use Rattle.model.specs.Words.{row};
 ghost use Rattle.placing.specs.Rows.{place_at, onto};
+ghost use Rattle.placing.specs.Counts.{enough_of, lesser_of};
 
 /// A place of the shortlist, as the host keeps it.
 #[repr(C)]
@@ -15,7 +16,7 @@ pub struct Place {
 }
 
 /// A shortlist by columns. 1,024 places hold the longest.
-#[derive(Drop)]
+#[derive(Clone, Copy)]
 pub struct Columns {
     pub picks: [u16; 1024],
     pub lows: [u32; 1024],
@@ -44,4 +45,19 @@ impl Columns {
             rows[i] = self.place(i);
         }
     }
+}
+
+/// So many rows are written: none where a search is refused.
+pub fn enough(number: u32, count: usize) -> usize
+    ensures { result ≡ enough_of number count }
+{
+    if number == 0 { count } else { 0 }
+}
+
+/// So many places are lent to a search: as many as there are rows, and 1,024 at most. Its own test tells whether they
+/// are enough.
+pub fn lesser(rows: usize) -> usize
+    ensures { result ≡ lesser_of rows }
+{
+    rows.min(1024)
 }

@@ -14,7 +14,6 @@ const STDOUT: i32 = 1;
 // write that fails the end of the output.
 fn main() {
     let mut bytes = [0u8; 33312];
-    let taken = io::read_full(STDIN, &mut bytes);
     let mut items = [0u16; 8192];
     let mut scores = [0u16; 8192];
     let mut picks = [0u16; 1024];
@@ -22,6 +21,9 @@ fn main() {
     let mut highs = [0u32; 1024];
     let mut tally = [0u8; 8192];
     let mut work = [0u16; 8192];
+    let mut out = [0u8; 114884];
+    // Every array stands before the read: one that came after it would be cleared twice.
+    let taken = io::read_full(STDIN, &mut bytes);
     let mut room = Room {
         picks: &mut picks,
         lows: &mut lows,
@@ -29,7 +31,6 @@ fn main() {
         tally: &mut tally,
         work: &mut work,
     };
-    let mut out = [0u8; 114884];
     let end = previewing::preview(
         &bytes[..taken],
         &mut items,

@@ -1,5 +1,7 @@
 -- The text by cases, as the two reads tell them: a refused query, refused lists, and what the searches are lent.
 --     flat_query, flat_lists     a refusal of either record carries 0, 0
+--     flat_line                  the line of a refusal that does
+--     query_number, lists_number     the number of a read is that of its record's head
 --     lists_roomy                in slices of 8,192 places a read of lists is never refused by 6
 --     query_refused              the text where the query is refused
 --     part_from, part_is_lists_of         a part of a slice to its end; the list record is what follows the query
@@ -20,7 +22,7 @@ use Rattle.model.specs.Program.{refused_line, lists_of, lent_by, program_verdict
 use Rattle.laws.specs.Verdicts.{by_verdict}
 use Rattle.laws.specs.Lists.{row_length}
 use Rattle.laws.specs.Accepted.{size_fits}
-use Rattle.std.specs.Prelude.{Ok, Err}
+use Rattle.std.specs.Prelude.{Result, Ok, Err}
 use Rattle.poses.specs.declared.refusals.Refusal.{Refusal}
 use Rattle.poses.specs.Refusals.{told_of, refused_as}
 use Rattle.records.specs.declared.QueryRead.{QueryRead}
@@ -28,6 +30,7 @@ use Rattle.records.specs.declared.ListsRead.{ListsRead}
 use Rattle.records.specs.Clauses.{value_of_query, QueryIsRead, value_of_lists, ListsAreRead}
 use Rattle.records.specs.Held.{lists_held}
 use Rattle.heads.specs.Heads.{query_from_11, query_from_12, query_from_13, query_says, lists_from_11, lists_from_12, lists_from_1, lists_from_13, lists_says}
+use Rattle.records.specs.Placeless.{placeless_test, placeless_last, placeless_query, placeless_lists}
 use Rattle.records.specs.Settled.{query_zero, lists_zero}
 use Rattle.admission.specs.Clauses.{lent_with}
 use Rattle.admission.specs.Shapes.{Flat}
@@ -35,29 +38,30 @@ use Rattle.lines.specs.Alike.{Alike, alike_printing}
 
 -- ---- a refusal of a record carries 0, 0
 flat_test : (x : ℕ) (b : Bool) (later : Verdict) → Flat later → Flat (x when b then later)
-flat_test x true later h = (refl, refl)
-flat_test x false later h = h
+flat_test x b later h = placeless_test x b later h
 
 flat_last : (x : ℕ) (b : Bool) → Flat (x when b)
-flat_last x true = (refl, refl)
-flat_last x false = (refl, refl)
+flat_last x b = placeless_last x b
 
 pub flat_query : (b : List ℕ) → Flat (query_head b)
-unfolding query_head
-flat_query b =
-    flat_test 10 (ltb (length b) 9) (query_from_12 b)
-    (flat_test 12 (not (eqb (byte b 4) 1)) (query_from_13 b)
-    (flat_test 13 (not (eqb (quad b 0) (query_says b))) (query_from_11 b)
-    (flat_last 11 (ltb (length b - 4) (quad b 0)))))
+flat_query b = placeless_query b
 
 pub flat_lists : (b : List ℕ) → Flat (lists_head b)
-unfolding lists_head
-flat_lists b =
-    flat_test 10 (ltb (length b) 8) (lists_from_11 b)
-    (flat_test 11 (not (eqb (quad b 0) (length b - 4))) (lists_from_12 b)
-    (flat_test 12 (not (eqb (byte b 4) 1)) (lists_from_1 b)
-    (flat_test 1 (wrong_size (lists_m b) (lists_n b)) (lists_from_13 b)
-    (flat_last 13 (not (eqb (quad b 0) (lists_says b)))))))
+flat_lists b = placeless_lists b
+
+-- a flat refusal's line
+flat_line : (v later : Verdict) (l : Lent) → Flat v → ((told v).number ≡ 0 → ⊥)
+    → printing (v then later) l ≡ refused_line (told v).number 0 0
+unfolding printing
+flat_line accepted later l h some = absurd (some refl)
+flat_line (refused x i p) later l h some = rw (h.0, h.1)
+
+-- the number of a read is that of its record's head
+query_number : {b : List ℕ} {r : Result QueryRead Refusal} → QueryIsRead b r → (value_of_query r).number ≡ (told (query_head b)).number
+unfolding read_query query_answer
+query_number {b} x =
+    let same = ap (λ (v : QueryValue). v.number) x.answers in
+    by_verdict (query_head b) (λ e. same ∙ rw e) (λ y i p e. same ∙ rw e)
 
 -- ---- the query
 -- a part of a slice, from a place to its end, as the code's `&bytes[at..]` is told
@@ -112,6 +116,15 @@ lists_roomy b items scores many many' =
     let fits : size ≤ 8192 = size_fits (lists_held b e).sizes in
     rw (e, le-ltb (length items) size (omega arith), le-ltb (length scores) size (omega arith)))
     (λ y i p e. rw e)
+
+-- the number of a read of lists into slices of 8,192 places is that of their head
+lists_number : {b items scores i s : List ℕ} {r : Result ListsRead Refusal} → ListsAreRead b items scores r i s
+    → length items ≡ 8192 → length scores ≡ 8192 → (value_of_lists r).number ≡ (told (lists_head b)).number
+unfolding read_lists lists_answer
+lists_number {b} {items} {scores} x many many' =
+    let same = ap (λ (v : ListsValue). v.number)
+    (x.answers ∙ ap (λ (v : Verdict). lists_answer v b) (lists_roomy b items scores many many')) in
+    by_verdict (lists_head b) (λ e. same ∙ rw e) (λ y i p e. same ∙ rw e)
 
 -- what was written over the start of a slice is its first part
 row_taken : (f : ℕ → ℕ) (n : ℕ) (s : List ℕ) → take n (over (row f n) s) ≡ row f n

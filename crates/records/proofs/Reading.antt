@@ -4,8 +4,9 @@
 --     head_refused                   lists that are refused by their head: both slices are as lent
 --     items_short, scores_short      that are refused by 6
 --     lists_taken                    that are read
+--     refusal_told, items_as_lent, scores_as_lent      lists whose head is refused, by its number alone: what is told, and what is left
 -- Assumes nothing.
-use mathlib.Core.Path.{◌≡◌, ap, ◌∙◌}
+use mathlib.Core.Path.{◌≡◌, refl, ap, ◌∙◌}
 use mathlib.Core.List.{List}
 use Prim.Native.Nat.{ℕ, ◌+◌, ◌*◌, ◌≤◌, ◌<◌}
 use native.Mathlib.Omega.{arith}
@@ -22,8 +23,8 @@ use Rattle.poses.specs.declared.refusals.Refusal.{Refusal}
 use Rattle.poses.specs.declared.refusals.Refusal.TheVariants.{ShortRoom}
 use Rattle.poses.specs.Refusals.{told_of, refused_as}
 use Rattle.records.specs.declared.QueryRead.{QueryRead}
-use Rattle.records.specs.Clauses.{QueryIsRead, ListsAreRead}
-use Rattle.records.specs.Held.{lists_held}
+use Rattle.records.specs.Clauses.{lists_refusal, QueryIsRead, ListsAreRead}
+use Rattle.records.specs.Held.{refused_by, lists_held}
 
 -- ---- a query
 module _ (b : List ℕ) where
@@ -112,3 +113,27 @@ module _ (b items scores : List ℕ) where
               leaves_items = rw accepts (rw (z.m_is, z.n_is) at i_is);
               leaves_scores = rw accepts (rw (z.m_is, z.n_is) at (s_is ∙ scores_filled));
             }
+
+-- ---- lists whose head is refused, by whatever test of the number it is seen
+module _ (b items scores : List ℕ) where
+  head_told : {x : ℕ} (i p : ℕ) → lists_head b ≡ refused x i p → read_lists b items scores ≡ lists_refusal x
+  unfolding read_lists lists_answer lists_verdict
+  head_told i p e = rw e
+
+  items_left : {x : ℕ} (i p : ℕ) → lists_head b ≡ refused x i p → items_after b items scores ≡ items
+  unfolding items_after written lists_verdict
+  items_left i p e = rw e
+
+  scores_left : {x : ℕ} (i p : ℕ) → lists_head b ≡ refused x i p → scores_after b items scores ≡ scores
+  unfolding scores_after written lists_verdict
+  scores_left i p e = rw e
+
+  module _ (some : 0 < (told (lists_head b)).number) where
+    pub refusal_told : read_lists b items scores ≡ lists_refusal (told (lists_head b)).number
+    refusal_told = refused_by (lists_head b) refl (λ none. absurd (omega (arith, none))) (λ i p refuses. head_told i p refuses)
+
+    pub items_as_lent : items_after b items scores ≡ items
+    items_as_lent = refused_by (lists_head b) refl (λ none. absurd (omega (arith, none))) (λ i p refuses. items_left i p refuses)
+
+    pub scores_as_lent : scores_after b items scores ≡ scores
+    scores_as_lent = refused_by (lists_head b) refl (λ none. absurd (omega (arith, none))) (λ i p refuses. scores_left i p refuses)

@@ -1,5 +1,7 @@
 -- What the reads and the choice promise to whoever calls them, and nothing of their inside.
---     query_one_to_one, lists_one_to_one     two answers of one value are one answer
+--     query_one_to_one, lists_one_to_one     two answers that are told alike and have one value are one answer
+--     query_value_once, lists_value_once     two results of reads, of whatever bytes, that have one value are one result
+--     query_once, lists_once                 two queries that are read, or two sizes, of one value are one
 --     query_settles, lists_settle, weights_settle    any two results that meet a contract coincide, slices included
 --     query_zero, lists_zero                 the number is 0 exactly where the model accepts
 --     query_within                           a query that is read lies within the bytes, and so does where the next starts
@@ -15,13 +17,22 @@ use Rattle.model.specs.Records.{QueryRead as QueryValue, query_head, query_count
 use Rattle.laws.specs.Tests.{or_no}
 use Rattle.laws.specs.Verdicts.{Numbered, numbered_when, numbered_then, when_passes, then_first, then_second}
 use Rattle.laws.specs.Accepted.{Sized, long}
-use Rattle.model.specs.Answers.{Told}
+use Rattle.model.specs.Answers.{Told, told}
 use Rattle.poses.specs.declared.refusals.Refusal.{Refusal}
 use Rattle.poses.specs.Refusals.{value_of, told_once, number_some}
 use Rattle.records.specs.declared.QueryRead.{QueryRead}
 use Rattle.records.specs.declared.ListsRead.{ListsRead}
 use Rattle.records.specs.Clauses.{value_of_query, QueryIsRead, value_of_lists, ListsAreRead, WeightsChosen}
 use Rattle.records.specs.Held.{numbered_query, query_held, numbered_lists, lists_held}
+use Rattle.records.specs.Placeless.{Placeless, placeless_query, placeless_verdict}
+
+-- two verdicts that carry 0, 0 and have one number are told alike
+told_alike : (a c : Told) (v w : Verdict) → a ≡ told v → c ≡ told w → Placeless v → Placeless w → a.number ≡ c.number → a ≡ c
+told_alike a c v w x y none_of_v none_of_w number =
+    let list : a.list ≡ c.list = ap (λ (t : Told). t.list) x ∙ none_of_v.0 ∙ sym (ap (λ (t : Told). t.list) y ∙ none_of_w.0) in
+    let position : a.position ≡ c.position =
+    ap (λ (t : Told). t.position) x ∙ none_of_v.1 ∙ sym (ap (λ (t : Told). t.position) y ∙ none_of_w.1) in
+    λ j. record { number = number j; list = list j; position = position j }
 
 -- ---- a query
 query_in : QueryValue → QueryRead
@@ -34,6 +45,23 @@ query_one_to_one (Ok r) (Ok t) told e = ap (λ (v : QueryValue). Ok (query_in v)
 query_one_to_one (Ok r) (Err d) told e = absurd (number_some d (sym (ap (λ (v : Told). v.number) told)))
 query_one_to_one (Err d) (Ok t) told e = absurd (number_some d (ap (λ (v : Told). v.number) told))
 query_one_to_one (Err d) (Err f) told e = ap (λ (x : Refusal). Err x) (told_once d f told)
+
+-- two queries that are read, of one value, are one
+pub query_once : (r t : QueryRead) → value_of_query (Ok r) ≡ value_of_query (Ok t) → r ≡ t
+unfolding query_in
+query_once r t e = ap query_in e
+
+query_number_of : (r : Result QueryRead Refusal) → (value_of_query r).number ≡ (value_of r).number
+query_number_of (Ok r) = refl
+query_number_of (Err d) = refl
+
+-- two results of reads, of whatever bytes, that have one value are one result
+pub query_value_once : {b d : List ℕ} {r t : Result QueryRead Refusal} → QueryIsRead b r → QueryIsRead d t
+    → value_of_query r ≡ value_of_query t → r ≡ t
+query_value_once {b} {d} {r} {t} x y e =
+    query_one_to_one r t
+    (told_alike (value_of r) (value_of t) (query_head b) (query_head d) x.tells y.tells (placeless_query b) (placeless_query d)
+    (sym (query_number_of r) ∙ ap (λ (v : QueryValue). v.number) e ∙ query_number_of t)) e
 
 pub query_settles : {b : List ℕ} {r t : Result QueryRead Refusal} → QueryIsRead b r → QueryIsRead b t → r ≡ t
 query_settles {b} {r} {t} x y = query_one_to_one r t (x.tells ∙ sym y.tells) (x.answers ∙ sym y.answers)
@@ -75,6 +103,25 @@ lists_one_to_one (Ok r) (Ok t) told e = ap (λ (v : ListsValue). Ok (lists_in v)
 lists_one_to_one (Ok r) (Err d) told e = absurd (number_some d (sym (ap (λ (v : Told). v.number) told)))
 lists_one_to_one (Err d) (Ok t) told e = absurd (number_some d (ap (λ (v : Told). v.number) told))
 lists_one_to_one (Err d) (Err f) told e = ap (λ (x : Refusal). Err x) (told_once d f told)
+
+-- two pairs of sizes that are read, of one value, are one
+pub lists_once : (r t : ListsRead) → value_of_lists (Ok r) ≡ value_of_lists (Ok t) → r ≡ t
+unfolding lists_in
+lists_once r t e = ap lists_in e
+
+lists_number_of : (r : Result ListsRead Refusal) → (value_of_lists r).number ≡ (value_of r).number
+lists_number_of (Ok r) = refl
+lists_number_of (Err d) = refl
+
+-- two results of reads, of whatever bytes and slices, that have one value are one result
+pub lists_value_once : {b d items scores i s items' scores' i' s' : List ℕ} {r t : Result ListsRead Refusal}
+    → ListsAreRead b items scores r i s → ListsAreRead d items' scores' t i' s'
+    → value_of_lists r ≡ value_of_lists t → r ≡ t
+lists_value_once {b} {d} {items} {scores} {items' = items'} {scores' = scores'} {r = r} {t = t} x y e =
+    lists_one_to_one r t
+    (told_alike (value_of r) (value_of t) (lists_verdict b items scores) (lists_verdict d items' scores') x.tells y.tells
+    (placeless_verdict b items scores) (placeless_verdict d items' scores')
+    (sym (lists_number_of r) ∙ ap (λ (v : ListsValue). v.number) e ∙ lists_number_of t)) e
 
 pub lists_settle : {b items scores i k s u : List ℕ} {r t : Result ListsRead Refusal} → ListsAreRead b items scores r i s
     → ListsAreRead b items scores t k u → (r ≡ t) × (i ≡ k) × (s ≡ u)

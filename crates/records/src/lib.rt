@@ -1,4 +1,5 @@
-//! The reads of a query record and of a list record, and the weights chosen from either.
+//! The reads of a query record and of a list record, and the weights chosen from either. The refusal that a caller names
+//! beside is handed on.
 #![tactic(auto)]
 
 ghost use Rattle.std.specs.Prelude.{◌≡◌};
@@ -6,7 +7,7 @@ ghost use Rattle.records.specs.Clauses.{QueryIsRead, ListsAreRead, WeightsChosen
 
 use filling::fill;
 use heads::{lists_head, lists_m, lists_n, pair_at, query_count, query_head};
-use poses::refusals::Refusal;
+pub use poses::refusals::Refusal;
 
 /// A query record that was read. `rule` and `k` go into a query with no cast, and
 /// `&input[bytes..]` is what follows the record.

@@ -106,3 +106,23 @@ pub fn run<M: Scored>(
     // The last row or round ends every search.
     unreachable!()
 }
+
+/// A search by its number: 0 TA, 2 BPA2, any other BPA.
+pub fn run_by(
+    which: u8,
+    accepted: Accepted,
+    count: usize,
+    picks: &mut [u16],
+    lows: &mut [u32],
+    tally: &mut [u8],
+) -> Found
+    requires { Running (set_of accepted.reading.set) count picks.old lows.old tally.old }
+    ensures { RanBy which (set_of accepted.entry.reading.set) (query_of accepted.entry.reading) count
+        picks.old lows.old tally.old result picks.new lows.new tally.new }
+{
+    match which {
+        0 => run::<Ta>(accepted, count, picks, lows, tally),
+        2 => run::<Bpa2>(accepted, count, picks, lows, tally),
+        _ => run::<Bpa>(accepted, count, picks, lows, tally),
+    }
+}

@@ -3,6 +3,7 @@
 --     state_now                          where a step leads from a state that stands over the slices themselves
 --     mark_at                            what the tally slice holds at a position
 --     located_of, small_of, visitable_of, meeting_of      what meeting an item asks, from what is known
+--     keeps_now                          the shortlist has room and is filled as far as it says, in every state
 --     row_count                          in the middle of a row no item's places were visited more than m times
 -- Assumes nothing.
 use Rattle.std.specs.Prelude.{◌≡◌, List, ◌++◌, ℕ, suc, ◌+◌, ◌-◌, ◌*◌, ◌≤◌, ◌<◌, length, get_or}
@@ -18,6 +19,7 @@ use Rattle.poses.specs.Sets.{set_of}
 use Rattle.meeting.specs.Clauses.{query_of, Located, Small}
 use Rattle.meeting.specs.declared.Reading.{Reading}
 use Rattle.meeting.specs.declared.Accepted.{Accepted}
+use Rattle.meeting.specs.Shortlist.{Keeps}
 use Rattle.noting.specs.Clauses.{Visitable}
 use Rattle.noting.specs.declared.shortlist.Shortlist.{Shortlist}
 use Rattle.stepping.specs.State.{State, Goes, Meeting, Standing}
@@ -37,6 +39,11 @@ module _ {s : Poses} {q : Query} where
 pub state_now : {r : Reading} {tr tr' : List Access} {l l' : Shortlist} {a b : List ℕ} → Standing r tr l a
     → Goes (set_of r.set) (query_of r) tr tr' l a l' b → State (set_of r.set) (query_of r) tr' l.picks.now l.lows.now a l' b
 state_now {l = l} {a = a} standing g = g.step l.picks.now l.lows.now a standing.state
+
+pub keeps_now : {s : Poses} {q : Query} {filled₀ : ℕ} {tr : List Access} {picks₀ lows₀ tally₀ marks : List ℕ} {l : Shortlist}
+    → Keeps l.count filled₀ picks₀ lows₀ lows₀ → State s q tr picks₀ lows₀ tally₀ l marks
+    → Keeps l.count l.filled l.picks.now l.lows.now l.lows.now
+keeps_now {l = l} keeps at = l.keeps
 
 -- what the tally slice holds at a position
 pub mark_at : (s : Poses) (tr : List Access) (tally₀ : List ℕ) {marks : List ℕ} → marks ≡ over (tally s tr) tally₀

@@ -46,16 +46,22 @@ fn read_head() -> Option<Head> {
     })
 }
 
+// All five are read before one is refused.
 fn read_lengths() -> Option<Lengths>
     ensures { IfSome result (λ r. (r.picks ≤ 1100) × (r.lows ≤ 1100) × (r.highs ≤ 1100)
         × (r.tally ≤ 8200) × (r.work ≤ 8200)) }
 {
+    let picks = input::length(1100);
+    let lows = input::length(1100);
+    let highs = input::length(1100);
+    let tally = input::length(8200);
+    let work = input::length(8200);
     Some(Lengths {
-        picks: input::length(1100)?,
-        lows: input::length(1100)?,
-        highs: input::length(1100)?,
-        tally: input::length(8200)?,
-        work: input::length(8200)?,
+        picks: picks?,
+        lows: lows?,
+        highs: highs?,
+        tally: tally?,
+        work: work?,
     })
 }
 

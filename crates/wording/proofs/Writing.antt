@@ -1,8 +1,9 @@
 -- The line of an answer, written.
 --     found_asked                        the room that a search's line asks, of that which an answer's asks
 --     found_written, refusal_written     the line by its two ways
+--     refused_short                      a refusal's line is no longer than its room
 -- Assumes nothing.
-use Rattle.std.specs.Prelude.{◌≡◌, List, ℕ, ◌+◌, ◌*◌, ◌≤◌, length}
+use Rattle.std.specs.Prelude.{◌≡◌, List, ℕ, ◌+◌, ◌*◌, ◌^◌, ◌≤◌, ◌<◌, length}
 use Rattle.std.proofs.Common.{arith, eq-eqb, ne_eqb}
 use Rattle.model.specs.Program.{line, refused_line}
 use Rattle.model.specs.Answers.{Place}
@@ -10,7 +11,8 @@ use Rattle.answers.specs.declared.Answer.{Answer}
 use Rattle.fields.specs.Clauses.{Appended}
 use Rattle.listing.specs.Clauses.{LineRoom}
 use Rattle.text.specs.Names.{name_at, name_most}
-use Rattle.wording.specs.Clauses.{answer_text, AnswerRoom, AnswerWritten}
+use Rattle.text.specs.Lines.{refused_most}
+use Rattle.wording.specs.Clauses.{line_room, answer_text, AnswerRoom, AnswerWritten}
 
 module _ (which k : ℕ) {a : Answer} {picks lows highs out : List ℕ} {at : ℕ} where
   pub found_asked : a.number ≡ 0 → AnswerRoom a k picks lows highs out at
@@ -38,3 +40,8 @@ module _ {which : ℕ} {a : Answer} {places : List Place} {before after : List �
       → AnswerWritten which a places before at after end
   unfolding answer_text
   refusal_written some w short = record { appended = rw (ne_eqb a.number 0 some) w; short = omega arith }
+
+pub refused_short : (a : Answer) → a.number < 2 ^ 32 → a.list < 2 ^ 32 → a.position < 2 ^ 32
+    → length (refused_line a.number a.list a.position) ≤ line_room
+refused_short a number_fits list_fits position_fits =
+    omega (arith, refused_most a.number a.list a.position number_fits list_fits position_fits)

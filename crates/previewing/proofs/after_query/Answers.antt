@@ -1,7 +1,7 @@
 -- `previewing::after_query` meets its contract: the lists are refused, or the searches run over the entries that were read, with
 -- the weights chosen from either record.
 -- Assumes nothing.
-use Rattle.std.proofs.Common.{refl, sym, arith, length-take-le}
+use Rattle.std.proofs.Common.{refl, sym, arith, rules, length-take-le}
 use Rattle.records.specs.Settled.{query_within}
 use Rattle.previewing.specs.Cases.{lists_refused_line, size_fit, all_searched}
 use Rattle.previewing.proofs.Printing.{previewed}
@@ -50,4 +50,4 @@ returns-in-Ok-clause-text c =
 pub returns-in-Err-clause-text : goal.returns-in-Err-clause-text
 returns-in-Err-clause-text c =
     let text = lists_refused_line c.requires.is_read c.requires.room.items_are c.requires.room.scores_are c.in-Err.ensures in
-    previewed (sym text) c.refused.ensures
+    previewed (sym text) (search rules)

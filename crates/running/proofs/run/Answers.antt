@@ -1,6 +1,7 @@
 -- `running::run` meets its contract: NRA stops at row n at the latest, and makes sorted accesses alone.
 -- Assumes nothing.
-use Rattle.std.proofs.Common.{arith}
+use Rattle.std.proofs.Common.{◌≡◌, arith, rules}
+use Rattle.poses.specs.Methods.{method_number}
 use Rattle.poses.specs.Sets.{set_of}
 use Rattle.meeting.specs.Clauses.{query_of}
 use Rattle.demands.specs.Promised.{promised}
@@ -16,6 +17,7 @@ only_sorted-requires c =
 
 pub returns-in-Nra : goal.returns-in-Nra
 returns-in-Nra c =
-    rw c.in-Nra.is
+    let is_nra : method_number c.args.method ≡ 3 = search rules in
+    rw is_nra
     (bounded_runs 3 _ _ _ _ _ _ _ _ _ _ _ _ (omega arith) c.args.accepted.readable.lists_valid c.requires.k_least c.requires.k_most
     c.run_nra-rows.ensures c.only_sorted.ensures)
