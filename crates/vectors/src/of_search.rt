@@ -93,7 +93,8 @@ fn show(number: u32, method: Method, set: PoseSet, query: Query, room: &mut Room
     print::first_picks(room.picks);
 }
 
-// The slices to be written, of the lengths told.
+// The slices to be written, of the lengths told. In its caller's frame, they share the stack with those of the other kinds of case.
+#[inline(always)]
 fn with_room(number: u32, method: Method, set: PoseSet, query: Query) -> Option<()> {
     let lengths = read_lengths()?;
     let mut picks = [0u16; 1100];
